@@ -3,6 +3,7 @@ ghost use Rattle.std.specs.Prelude.{◌≡◌, [], ◌∷◌, ◌++◌, ◌<◌,
 ghost use Rattle.std.specs.Option.{option_copied};
 ghost use Rattle.std.specs.Cmp.Lexicographic.{pointwise, slice_cmp, slice_partial_cmp, lists_equiv, lists_agrees, lists_total, lists_ties, lists_po, lists_per};
 
+use crate::Copied;
 use std::alloc::{AllocError, Global};
 use std::cmp::Ordering;
 use std::marker::Model;
@@ -132,5 +133,13 @@ impl<T: Drop> Listed<T> {
         ensures { self.new ≡ take len self.old }
     {
         self.items.truncate(len);
+    }
+}
+
+impl<T: Copied> Copied for Listed<T> {
+    fn copy(&self, alloc: Global) -> Result<Listed<T>, AllocError> {
+        Ok(Listed {
+            items: T::copy_all(self.as_slice(), alloc)?,
+        })
     }
 }

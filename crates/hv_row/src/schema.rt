@@ -1,5 +1,6 @@
 // Columns and schemas.
-use crate::{Bytes, ColType, Listed};
+use crate::{Bytes, ColType, Copied, Listed};
+use std::alloc::{AllocError, Global};
 
 /// A column: its name, its type, and whether it has an index and kept ranges.
 #[derive(Debug, Drop)]
@@ -12,3 +13,14 @@ pub struct Column {
 
 /// Columns in order.
 pub type Columns = Listed<Column>;
+
+impl Copied for Column {
+    fn copy(&self, alloc: Global) -> Result<Column, AllocError> {
+        Ok(Column {
+            name: self.name.copy(alloc)?,
+            kind: self.kind,
+            index: self.index,
+            range: self.range,
+        })
+    }
+}
