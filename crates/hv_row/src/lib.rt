@@ -2,15 +2,14 @@
 //! A value of a type here is told by its bytes and numbers alone, never by where it lies or how much room it has.
 #![tactic(auto)]
 
+mod bytes;
 mod copied;
 mod listed;
 mod schema;
 mod value;
 
+pub use bytes::Bytes;
 pub use copied::Copied;
 pub use listed::Listed;
-pub use schema::{Column, Columns};
+pub use schema::{Column, Columns, MAX_COLUMNS, Schema, first_repeated, has_column};
 pub use value::{ColType, Row, Rows, Value, compare};
-
-/// A byte string.
-pub type Bytes = Listed<u8>;

@@ -1,6 +1,13 @@
 // Columns and schemas.
+ghost use Rattle.std.specs.Prelude.{◌≡◌, IfOk};
+ghost use Rattle.hv_row.specs.Schema.{has_column, first_repeated, IsSchema};
+
 use crate::{Bytes, ColType, Copied, Listed};
 use std::alloc::{AllocError, Global};
+use std::marker::Model;
+
+/// The most columns that a table has.
+pub const MAX_COLUMNS: usize = 32;
 
 /// A column: its name, its type, and whether it has an index and kept ranges.
 #[derive(Debug, Drop)]
@@ -11,9 +18,6 @@ pub struct Column {
     pub range: bool,
 }
 
-/// Columns in order.
-pub type Columns = Listed<Column>;
-
 impl Copied for Column {
     fn copy(&self, alloc: Global) -> Result<Column, AllocError> {
         Ok(Column {
@@ -23,4 +27,80 @@ impl Copied for Column {
             range: self.range,
         })
     }
+}
+
+/// Columns in order.
+pub type Columns = Listed<Column>;
+
+/// The columns of a table: 1 to 32 with distinct names, as contracts know of each.
+#[derive(Debug, Drop)]
+pub struct Schema {
+    columns: Columns,
+}
+
+impl Model for Schema {
+    ghost use Rattle.std.specs.Prelude.{List};
+    ghost use Rattle.hv_row.specs.declared.schema.Column.{Column};
+
+    ghost Value = { List Column };
+
+    ghost use Rattle.hv_row.specs.Schema.{IsSchema};
+
+    ghost view = { λ schema. schema.columns };
+
+    ghost invariant = { λ schema. IsSchema schema.columns };
+}
+
+impl Schema {
+    /// The schema of these columns, which the caller has tested.
+    pub fn new(columns: Columns) -> Schema
+        requires { IsSchema columns }
+        ensures { result ≡ columns }
+    {
+        Schema { columns }
+    }
+
+    pub fn columns(&self) -> &[Column]
+        ensures same { result.now ≡ self.now }
+        ensures schema { IsSchema self.now }
+    {
+        self.columns.as_slice()
+    }
+
+    /// The columns back; takes no memory.
+    pub fn into_columns(self) -> Columns
+        ensures same { result ≡ self }
+        ensures schema { IsSchema self }
+    {
+        let Schema { columns } = self;
+        columns
+    }
+}
+
+impl Copied for Schema {
+    fn copy(&self, alloc: Global) -> Result<Schema, AllocError> {
+        Ok(Schema {
+            columns: self.columns.copy(alloc)?,
+        })
+    }
+}
+
+/// Whether one of the columns has this name, byte for byte.
+pub fn has_column(columns: &[Column], name: &Bytes) -> bool
+    ensures { result ≡ has_column columns.now name.now }
+{
+    columns.iter().any(|column| column.name.equals(name))
+}
+
+/// The place, counted from 0, of the first column whose name one before it has; `None` where the names are distinct.
+/// A table has no two columns of one name (ISO/IEC 9075, table definition).
+pub fn first_repeated(columns: &[Column]) -> Option<usize>
+    ensures { result ≡ first_repeated columns.now }
+{
+    for (at, column) in columns.iter().enumerate() {
+        if has_column(&columns[..at], &column.name) {
+            return Some(at);
+        }
+    }
+    None
 }
