@@ -1,0 +1,10 @@
+pub mod Token
+pub mod Tree
+pub mod Script
+pub mod Import
+pub mod Database
+pub mod Query
+pub mod Command
+pub mod Legal
+pub mod Report
+pub mod Words

@@ -1,0 +1,66 @@
+// The catalogue: tables of chunks of rows, and the commands that change it.
+use hv_row::{Bytes, Listed, Rows, Schema};
+
+/// A chunk: its number, which no other chunk ever has, and its rows in order.
+#[derive(Debug, Drop)]
+pub struct Chunk {
+    pub number: u32,
+    pub rows: Rows,
+}
+
+/// Chunks in a table's order.
+pub type Chunks = Listed<Chunk>;
+
+/// A table: its name, its schema, and its chunks in order.
+#[derive(Debug, Drop)]
+pub struct Table {
+    pub name: Bytes,
+    pub schema: Schema,
+    pub chunks: Chunks,
+}
+
+/// Tables in order of creation.
+pub type Tables = Listed<Table>;
+
+/// A database: its tables, how many chunks were ever made, and how many commands were accepted.
+#[derive(Debug, Drop)]
+pub struct Database {
+    pub tables: Tables,
+    pub made: u32,
+    pub length: u32,
+}
+
+/// A command that changes the catalogue.
+#[derive(Debug, Drop)]
+pub enum Command {
+    Create { table: Bytes, schema: Schema },
+    Import { table: Bytes, rows: Rows },
+}
+
+/// Why a database doesn't accept a command.
+#[derive(Debug, Clone, Copy, PartialEq, Eq)]
+pub enum StepRefusal {
+    TableExists,
+    TooManyTables,
+    NoTable,
+    TooManyChunks,
+    HistoryFull,
+}
+
+/// What an accepted command did.
+#[derive(Debug, Drop)]
+pub enum Detail {
+    Create { table: Bytes },
+    Import { table: Bytes, chunk: u32, rows: u32 },
+}
+
+/// An entry of the history: the statement, by its session and its number there, and what it did.
+#[derive(Debug, Drop)]
+pub struct Entry {
+    pub session: Bytes,
+    pub number: u32,
+    pub what: Detail,
+}
+
+/// The entries of a history, in order of commit.
+pub type Entries = Listed<Entry>;

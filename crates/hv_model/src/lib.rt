@@ -1,0 +1,15 @@
+//! What a script means: the types of statements, commands, queries and replies, and in `specs/` the definitions that every contract above speaks of.
+//! Nothing here has a page, a file or a budget.
+#![tactic(auto)]
+
+mod catalogue;
+mod query;
+mod reply;
+mod script;
+mod tree;
+
+pub use catalogue::{Chunk, Chunks, Command, Database, Detail, Entries, Entry, StepRefusal, Table, Tables};
+pub use query::{BoundQuery, Cell, ColRef, Item, Items, OutRow, OutRows, Places};
+pub use reply::{Failure, Refusal, Replies, Reply};
+pub use script::{FaultName, Options, Phase, Phases, Script, ScriptFault, SessionNames, Statement};
+pub use tree::Ast;
