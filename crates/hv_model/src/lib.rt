@@ -8,7 +8,9 @@ mod reply;
 mod script;
 mod tree;
 
-pub use catalogue::{Chunk, Chunks, Command, Database, Detail, Entries, Entry, StepRefusal, Table, Tables};
+pub use catalogue::{
+    Chunk, Chunks, Command, Database, Detail, Entries, Entry, StepRefusal, Table, Tables,
+};
 pub use query::{BoundQuery, Cell, ColRef, Item, Items, OutRow, OutRows, Places};
 pub use reply::{Failure, Refusal, Replies, Reply};
 pub use script::{FaultName, Options, Phase, Phases, Script, ScriptFault, SessionNames, Statement};

@@ -1,0 +1,3 @@
+pub mod Places
+pub mod SoFar
+pub mod Whole
