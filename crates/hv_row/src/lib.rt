@@ -13,5 +13,5 @@ pub use bytes::Bytes;
 pub use copied::Copied;
 pub use listed::Listed;
 pub use row::{MAX_ROW_BYTES, MAX_TEXT_BYTES, fits_type, is_text, row_fits, row_length};
-pub use schema::{Column, Columns, MAX_COLUMNS, Schema, first_repeated, has_column};
+pub use schema::{Column, Columns, MAX_COLUMNS, Schema, first_repeated, has_column, is_schema};
 pub use value::{ColType, Row, Rows, Value, compare};

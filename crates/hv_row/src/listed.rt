@@ -1,5 +1,5 @@
 // A list that contracts see as the list of its elements.
-ghost use Rattle.std.specs.Prelude.{◌≡◌, [], ◌∷◌, ◌++◌, ◌<◌, ◌≤◌, ◌↔◌, length, take, slice_get, IsTrue, IfOk, OnOk, OnErr, OnSome, MatchOption};
+ghost use Rattle.std.specs.Prelude.{◌≡◌, [], ◌∷◌, ◌++◌, ◌-◌, ◌<◌, ◌≤◌, ◌↔◌, length, take, drop, slice_get, slice_set, IsTrue, IfOk, OnOk, OnErr, OnSome, MatchOption};
 ghost use Rattle.std.specs.Option.{option_copied};
 ghost use Rattle.std.specs.Cmp.Lexicographic.{pointwise, slice_cmp, slice_partial_cmp, lists_equiv, lists_agrees, lists_total, lists_ties, lists_po, lists_per};
 
@@ -7,6 +7,7 @@ use crate::Copied;
 use std::alloc::{AllocError, Global};
 use std::cmp::Ordering;
 use std::marker::Model;
+use std::mem;
 
 /// A `Vec` that contracts see as the list of its elements.
 #[derive(Debug, Drop)]
@@ -72,6 +73,14 @@ impl<T> Listed<T> {
         }
     }
 
+    /// An empty list with room for this many items.
+    pub fn with_capacity(alloc: Global, room: usize) -> Result<Listed<T>, AllocError>
+        ensures { IfOk result (λ list. list ≡ []) }
+    {
+        let items = Vec::with_capacity(alloc, room)?;
+        Ok(Listed { items })
+    }
+
     /// The list of a `Vec`; takes no memory.
     pub fn from_vec(items: Vec<T>) -> Listed<T>
         ensures { result ≡ items.items }
@@ -112,6 +121,24 @@ impl<T> Listed<T> {
         self.items.get(at)
     }
 
+    /// The last item; `None` where there is none.
+    pub fn last(&self) -> Option<&T>
+        ensures value { option_copied result ≡ slice_get self.now (length self.now - 1) }
+        ensures within { OnSome result (0 < length self.now) }
+    {
+        self.items.last()
+    }
+
+    /// Puts an item in the place of another, which comes back. Takes no memory, so that a list inside a list is changed
+    /// by taking it out, changing it and putting it back.
+    pub fn replace(&mut self, at: usize, item: T) -> T
+        requires { at < length self.old }
+        ensures replaced { slice_get self.old at ≡ Some result }
+        ensures new { self.new ≡ slice_set self.old at item }
+    {
+        mem::replace(&mut self.items[at], item)
+    }
+
     pub fn pop(&mut self) -> Option<T>
         ensures { MatchOption result ((self.old ≡ []) × (self.new ≡ [])) (λ last. self.old ≡ self.new ++ last ∷ []) }
     {
@@ -126,6 +153,25 @@ impl<T: Drop> Listed<T> {
     {
         self.items.push(item)?;
         Ok(())
+    }
+
+    /// Puts an item before the one at this place, or at the end.
+    pub fn insert(&mut self, at: usize, item: T) -> Result<(), AllocError>
+        requires { at ≤ length self.old }
+        ensures ok { OnOk result (self.new ≡ take at self.old ++ item ∷ drop at self.old) }
+        ensures err { OnErr result (self.new ≡ self.old) }
+    {
+        self.items.insert(at, item)?;
+        Ok(())
+    }
+
+    /// Moves the items of another list to the end.
+    pub fn append(&mut self, more: Listed<T>) -> Result<(), AllocError>
+        ensures ok { OnOk result (self.new ≡ self.old ++ more) }
+        ensures err { OnErr result (self.new ≡ self.old) }
+    {
+        let Listed { mut items } = more;
+        self.items.append(&mut items)
     }
 
     /// Drops all but the first `len` items.
