@@ -7,6 +7,8 @@ mod copied;
 mod listed;
 mod row;
 mod schema;
+#[cfg(test)]
+mod tests;
 mod value;
 
 pub use bytes::Bytes;

@@ -172,6 +172,17 @@ impl<T> Listed<T> {
     }
 }
 
+impl<T: Copied> Listed<T> {
+    /// The list of copies of these items.
+    pub fn from_slice(alloc: Global, items: &[T]) -> Result<Listed<T>, AllocError>
+        ensures { IfOk result (λ list. list ≡ items.now) }
+    {
+        Ok(Listed {
+            items: T::copy_all(alloc, items)?,
+        })
+    }
+}
+
 impl<T: Drop> Listed<T> {
     pub fn push(&mut self, item: T) -> Result<(), AllocError>
         ensures ok { OnOk result (self.new ≡ self.old ++ item ∷ []) }
@@ -211,7 +222,7 @@ impl<T: Drop> Listed<T> {
 impl<T: Copied> Copied for Listed<T> {
     fn copy(&self, alloc: Global) -> Result<Listed<T>, AllocError> {
         Ok(Listed {
-            items: T::copy_all(self.as_slice(), alloc)?,
+            items: T::copy_all(alloc, self.as_slice())?,
         })
     }
 }
