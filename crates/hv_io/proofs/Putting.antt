@@ -1,9 +1,8 @@
 -- The steps of handing bytes over.
-use Rattle.std.proofs.Common.{◌≡◌, ℕ, ◌≤◌, ◌+◌, List, [], ◌∷◌, subst, ◌++◌, length, take, drop, refl, ap, sym, ◌∙◌, append_assoc, arith, length-append, Option, Some, None, IfSome}
+use Rattle.std.proofs.Common.{◌≡◌, ℕ, ◌+◌, List, [], subst, ◌++◌, length, take, drop, ap, sym, ◌∙◌, append_assoc, arith, length-append, Option, Some, None}
 use Rattle.std.proofs.lemmas.List.{append-nil, take-append-drop}
-use Rattle.std.proofs.Math.Seq.{take-append_seam, take-append-add}
+use Rattle.std.proofs.Math.Seq.{take-append-add}
 use Rattle.hv_io.specs.Bytes.{Takes, Seen}
-use Rattle.hv_io.specs.Counts.{Rose}
 use Rattle.hv_io.specs.Putting.{TookAll, Stopped, Underway, Counted}
 use Rattle.hv_io.specs.declared.writing.PutAll.{PutAll}
 use Rattle.hv_io.specs.declared.writing.PutAll.TheVariants.{Failed, Zero}
@@ -36,7 +35,7 @@ underway_all start bytes now after rest u t = record {
 
 -- the first n bytes of the rest were taken
 pub underway_next : (start : Seen) (bytes : List ℕ) (now after : Seen) (rest : List ℕ) (n : ℕ) → Underway start bytes now rest
-  → Takes now.taken after.taken (take n rest) → after.faults ≡ now.faults → after.zeros ≡ now.zeros → Underway start bytes after (drop n rest)
+    → Takes now.taken after.taken (take n rest) → after.faults ≡ now.faults → after.zeros ≡ now.zeros → Underway start bytes after (drop n rest)
 underway_next start bytes now after rest n u t f z = record {
   out = u.out ++ take n rest;
   whole = append_assoc u.out (take n rest) (drop n rest) ∙ ap (λ xs. u.out ++ xs) (take-append-drop n rest) ∙ u.whole;
@@ -48,11 +47,11 @@ pub underway_done : (start : Seen) (bytes : List ℕ) (now : Seen) (rest : List 
 underway_done start bytes now rest none u =
     let all : u.out ≡ bytes = sym (append-nil u.out) ∙ ap (λ xs. u.out ++ xs) (sym none) ∙ u.whole in
     let P : List ℕ → Type 0 = λ xs. TookAll start xs now in
-   subst P all u.took
+    subst P all u.took
 
 -- only a part of the rest was taken
 pub underway_part : (start : Seen) (bytes : List ℕ) (now after : Seen) (rest : List ℕ) (cause : PutAll) → Underway start bytes now rest
-  → Stopped now rest after cause → Stopped start bytes after cause
+    → Stopped now rest after cause → Stopped start bytes after cause
 underway_part start bytes now after rest cause u s =
     let cut : take (length u.out + s.sent) bytes ≡ u.out ++ take s.sent rest = rw (← u.whole) (take-append-add u.out rest s.sent) in
     record {

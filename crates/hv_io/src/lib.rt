@@ -7,6 +7,8 @@ mod printer;
 mod sink;
 mod source;
 mod standard;
+#[cfg(test)]
+mod tests;
 mod writing;
 
 pub use memory::{MemSink, MemSource};

@@ -1,7 +1,7 @@
 // A buffer before a sink.
 ghost use Rattle.std.specs.Prelude.{◌≡◌, ℕ, ◌+◌, ◌≤◌, List, [], ◌++◌, length, Ok, IfOk, OnOk, OnErr, IfErr, IsOk, IsTrue, ◌↔◌};
 ghost use Rattle.hv_io.specs.Bytes.{Seen, seen};
-ghost use Rattle.hv_io.specs.Printing.{HasPrinted, Prints, blank};
+ghost use Rattle.hv_io.specs.Printing.{HasPrinted, Printing, Prints, blank};
 ghost use Rattle.hv_io.specs.Putting.{TookAll, Stopped};
 
 use crate::sink::Sink;
@@ -59,16 +59,26 @@ impl Printer {
         }
     }
 
-    /// Hands over what was held back, and tells what became of all that was put.
+    /// Hands over what was held back, and tells what became of all that was put. Takes no memory.
     pub fn finish<K: Sink>(self, out: &mut K) -> Result<(), PutAll>
         ensures all { (start : Seen) (text : List ℕ) → HasPrinted start text (seen K.taken K.faults K.zeros out.old) self → OnOk result (TookAll start text (seen K.taken K.faults K.zeros out.new)) }
         ensures part { (start : Seen) (text : List ℕ) → HasPrinted start text (seen K.taken K.faults K.zeros out.old) self → IfErr result (λ cause. Stopped start text (seen K.taken K.faults K.zeros out.new) cause) }
+        ensures whole { (start : Seen) (old : Printing) (text : List ℕ) → Prints text start old (seen K.taken K.faults K.zeros out.old) self → old ≡ blank → OnOk result (TookAll start text (seen K.taken K.faults K.zeros out.new)) }
+        ensures cut { (start : Seen) (old : Printing) (text : List ℕ) → Prints text start old (seen K.taken K.faults K.zeros out.old) self → old ≡ blank → IfErr result (λ cause. Stopped start text (seen K.taken K.faults K.zeros out.new) cause) }
     {
         let mut printer = self;
-        if printer.goes_on() {
-            printer.flush(out);
+        printer.end(out)
+    }
+
+    // Hands over what was held back, unless a fault came before.
+    fn end<K: Sink>(&mut self, out: &mut K) -> Result<(), PutAll>
+        ensures all { (start : Seen) (text : List ℕ) → HasPrinted start text (seen K.taken K.faults K.zeros out.old) self.old → OnOk result (TookAll start text (seen K.taken K.faults K.zeros out.new)) }
+        ensures part { (start : Seen) (text : List ℕ) → HasPrinted start text (seen K.taken K.faults K.zeros out.old) self.old → IfErr result (λ cause. Stopped start text (seen K.taken K.faults K.zeros out.new) cause) }
+    {
+        if self.goes_on() {
+            self.flush(out);
         }
-        printer.outcome
+        self.outcome
     }
 
     // Whether no fault came so far.

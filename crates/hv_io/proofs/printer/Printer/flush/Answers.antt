@@ -1,5 +1,4 @@
 -- What was held back is handed over by `put`.
-use Rattle.std.proofs.Common.{rules}
 use Rattle.hv_io.proofs.Buffering.{flush_prints}
 use Rattle.hv_io.proofs.printer.Printer.flush.Goals as goal
 

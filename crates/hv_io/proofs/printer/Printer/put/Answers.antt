@@ -1,5 +1,5 @@
 -- Each turn holds a piece back and hands over all that is held back.
-use Rattle.std.proofs.Common.{rules, ◌≡◌, ◌++◌, arith, ap, ◌∙◌, refl}
+use Rattle.std.proofs.Common.{rules, ◌≡◌, ◌++◌}
 use Rattle.std.proofs.lemmas.List.{take-append-drop}
 use Rattle.hv_io.proofs.Buffering.{so_far_next}
 use Rattle.hv_io.proofs.printer.Printer.put.Goals as goal

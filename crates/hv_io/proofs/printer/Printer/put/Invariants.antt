@@ -1,5 +1,5 @@
 -- What is neither handed over nor held back yet is the rest, and each turn but the last makes a whole piece of it.
-use Rattle.std.proofs.Common.{length, ◌+◌, ◌++◌, ◌≡◌, List, ℕ}
+use Rattle.std.proofs.Common.{length, ◌+◌}
 use Rattle.hv_io.specs.Bytes.{seen}
 use Rattle.hv_io.proofs.Buffering.{PutSoFar}
 use Rattle.hv_io.proofs.printer.Printer.put.Given as goal
