@@ -89,7 +89,7 @@ impl<T> Listed<T> {
         }
     }
 
-    /// An empty list with room for this many items.
+    /// An empty list with room for this many items; contracts do not see the room.
     pub fn with_capacity(alloc: Global, room: usize) -> Result<Listed<T>, AllocError>
         ensures { IfOk result (λ list. list ≡ []) }
     {
@@ -140,6 +140,7 @@ impl<T> Listed<T> {
         self.items.is_empty()
     }
 
+    /// The item at this place, counted from 0; `None` past the end.
     pub fn get(&self, at: usize) -> Option<&T>
         ensures value { option_copied result ≡ slice_get self.now at }
         ensures within { OnSome result (at < length self.now) }
@@ -165,6 +166,7 @@ impl<T> Listed<T> {
         mem::replace(&mut self.items[at], item)
     }
 
+    /// Takes the last item off; `None` where there is none.
     pub fn pop(&mut self) -> Option<T>
         ensures { MatchOption result ((self.old ≡ []) × (self.new ≡ [])) (λ last. self.old ≡ self.new ++ last ∷ []) }
     {
@@ -184,6 +186,7 @@ impl<T: Copied> Listed<T> {
 }
 
 impl<T: Drop> Listed<T> {
+    /// Puts an item at the end; `Err` only for want of memory, as of every call here that has one.
     pub fn push(&mut self, item: T) -> Result<(), AllocError>
         ensures ok { OnOk result (self.new ≡ self.old ++ item ∷ []) }
         ensures err { OnErr result (self.new ≡ self.old) }
