@@ -1,2 +1,2 @@
-mod Buffering
-mod Putting
+pub mod Buffering
+pub mod Putting

@@ -28,9 +28,9 @@ use Rattle.hv_model.specs.Query.{whole_table}
 abbrev pub table_of : Database → List ℕ → Option Table
 table_of s name = option_and_then (λ at. slice_get s.tables at) (table_number s name)
 
--- whether columns, of which there is one at least, make a schema: at most 32, with distinct names
+-- whether columns make a schema: 1 to 32, with distinct names
 abbrev pub are_schema : List Column → Bool
-are_schema columns = nat_le (length columns) 32 && is_none (first_repeated columns)
+are_schema columns = nat_le 1 (length columns) && nat_le (length columns) 32 && is_none (first_repeated columns)
 
 -- the command of a statement with this tree and these lines, where it has one at the database
 abbrev pub command_of : Option Ast → List ℕ → Database → Option Command
