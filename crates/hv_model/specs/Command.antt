@@ -1,5 +1,5 @@
 -- What a statement asks of a database: its command, its query, its refusal; and the database after a history. This project's own.
-use Rattle.std.specs.Prelude.{◌≡◌, ℕ, ◌+◌, ◌-◌, Bool, true, false, ◌&&◌, ◌||◌, ◌==◌, nat_le, List, [], ◌∷◌, ◌++◌, length, Option, Some, None, Result, Ok, Err, is_some, is_none, is_ok, find, fold, take, slice_get, if◌then◌else◌}
+use Rattle.std.specs.Prelude.{ℕ, ◌+◌, ◌-◌, Bool, false, ◌&&◌, ◌||◌, ◌==◌, nat_le, List, length, Option, Some, None, Result, Ok, Err, is_some, is_none, is_ok, find, fold, take, slice_get, if◌then◌else◌}
 use Rattle.std.specs.List.{flat_map}
 use Rattle.std.specs.Option.{option_and_then, option_map}
 use Rattle.hv_row.specs.declared.schema.Column.{Column}
@@ -37,9 +37,9 @@ abbrev pub command_of : Option Ast → List ℕ → Database → Option Command
 command_of None lines s = None
 command_of (Some (tree.Create name columns)) lines s = if are_schema columns then Some (Create name columns) else None
 command_of (Some (tree.Import name wanted)) lines s =
-  if nat_le wanted 1000000
-  then option_and_then (λ t. option_map (λ rows. Import name rows) (rows_of t.schema lines)) (table_of s name)
-  else None
+    if nat_le wanted 1000000
+    then option_and_then (λ t. option_map (λ rows. Import name rows) (rows_of t.schema lines)) (table_of s name)
+    else None
 command_of (Some (tree.SelectAll name)) lines s = None
 
 -- the command of a statement at a database
@@ -49,7 +49,7 @@ command_at x s = command_of (tree_of x.text) x.lines s
 -- the query of a statement with this tree, where it has one at the database
 abbrev pub query_of : Option Ast → Database → Option BoundQuery
 query_of (Some (tree.SelectAll name)) s =
-  option_and_then (λ number. option_map (λ t. whole_table number t.schema) (slice_get s.tables number)) (table_number s name)
+    option_and_then (λ number. option_map (λ t. whole_table number t.schema) (slice_get s.tables number)) (table_number s name)
 query_of (Some (tree.Create name columns)) s = None
 query_of (Some (tree.Import name wanted)) s = None
 query_of None s = None

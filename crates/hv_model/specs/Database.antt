@@ -1,10 +1,9 @@
 -- Databases, and what a command does to one. This project's own.
-use Rattle.std.specs.Prelude.{◌≡◌, ℕ, ◌+◌, ◌<◌, Bool, nat_le, List, [], ◌∷◌, ◌++◌, length, Option, Some, None, Result, Ok, Err, is_some, position, slice_get, slice_set, if◌then◌else◌}
+use Rattle.std.specs.Prelude.{ℕ, ◌+◌, nat_le, List, [], ◌∷◌, ◌++◌, length, Option, Some, None, Result, Ok, Err, is_some, position, slice_get, slice_set, if◌then◌else◌}
 use Rattle.std.specs.List.{flat_map}
 use Rattle.hv_row.specs.declared.value.Value.{Value}
 use Rattle.hv_row.specs.declared.schema.Column.{Column}
 use Rattle.hv_row.specs.Schema.{same_name}
-use Rattle.hv_model.specs.declared.catalogue.Chunk.{Chunk}
 use Rattle.hv_model.specs.declared.catalogue.Table.{Table}
 use Rattle.hv_model.specs.declared.catalogue.Database.{Database}
 use Rattle.hv_model.specs.declared.catalogue.Command.{Command}
@@ -39,7 +38,7 @@ abbrev pub with_table : List ℕ → List Column → Database → Database
 with_table name schema s = record {
   tables = s.tables ++ (record { name = name; schema = schema; chunks = [] }) ∷ [];
   made = s.made;
-  length = s.length + 1
+  length = s.length + 1;
 }
 
 -- the table with one more chunk, which is its last
@@ -51,21 +50,21 @@ abbrev pub with_chunk : ℕ → Table → List (List Value) → Database → Dat
 with_chunk at t rows s = record {
   tables = slice_set s.tables at (with_last_chunk t (s.made + 1) rows);
   made = s.made + 1;
-  length = s.length + 1
+  length = s.length + 1;
 }
 
 -- why no table of this name may be made, the first reason first
 abbrev pub create_refusal : List ℕ → Database → Option StepRefusal
 create_refusal name s =
-  if is_some (table_number s name) then Some TableExists
-  else (if nat_le most_tables (length s.tables) then Some TooManyTables
-        else (if nat_le most_entries s.length then Some HistoryFull else None))
+    if is_some (table_number s name) then Some TableExists
+    else (if nat_le most_tables (length s.tables) then Some TooManyTables
+    else (if nat_le most_entries s.length then Some HistoryFull else None))
 
 -- why no chunk may be added to a table, the first reason first
 abbrev pub import_refusal : Table → Database → Option StepRefusal
 import_refusal t s =
-  if nat_le most_chunks (length t.chunks) then Some TooManyChunks
-  else (if nat_le most_entries s.length then Some HistoryFull else None)
+    if nat_le most_chunks (length t.chunks) then Some TooManyChunks
+    else (if nat_le most_entries s.length then Some HistoryFull else None)
 
 -- a database, or the reason against it
 abbrev pub unless : Option StepRefusal → Database → Result Database StepRefusal

@@ -1,5 +1,5 @@
 -- When a history and replies are a legal outcome of a script. This project's own.
-use Rattle.std.specs.Prelude.{◌≡◌, ℕ, ◌+◌, ◌-◌, ◌<◌, ◌≤◌, Bool, true, false, List, [], ◌∷◌, length, take, map, Option, Some, None, Ok, IsSome, position, count_by, slice_get}
+use Rattle.std.specs.Prelude.{◌≡◌, ℕ, ◌+◌, ◌-◌, ◌<◌, ◌≤◌, Bool, true, false, List, length, take, map, Option, Some, None, Ok, IsSome, position, count_by, slice_get}
 use Rattle.std.specs.List.{flat_map}
 use Rattle.std.specs.Option.{option_and_then}
 use Rattle.hv_row.specs.Schema.{same_name}
@@ -41,7 +41,7 @@ session_place s name = position (λ other. same_name other name) s.sessions
 -- the reply to a statement; replies are kept by session, in order of naming, and there by number from 1
 abbrev pub reply_to : Script → List (List Reply) → Statement → Option Reply
 reply_to s replies x =
-  option_and_then (λ place. option_and_then (λ of_session. slice_get of_session (x.number - 1)) (slice_get replies place)) (session_place s x.session)
+    option_and_then (λ place. option_and_then (λ of_session. slice_get of_session (x.number - 1)) (slice_get replies place)) (session_place s x.session)
 
 -- whether a statement's reply says that its command was accepted
 abbrev pub is_done_option : Option Reply → Bool
@@ -73,14 +73,14 @@ pub record EachOnce (s : Script) (replies : List (List Reply)) : Type 0 where
 -- each entry names a statement whose reply is Done, with the entry's number and detail
 abbrev pub EntriesAreDone : Script → List Entry → List (List Reply) → Type 0
 EntriesAreDone s history replies =
-  (n : ℕ) (e : Entry) → entry_at history n ≡ Some e
-  → (x : Statement) × Stands s x × Names e x × (reply_to s replies x ≡ Some (reply.Done n e.what))
+    (n : ℕ) (e : Entry) → entry_at history n ≡ Some e
+    → (x : Statement) × Stands s x × Names e x × (reply_to s replies x ≡ Some (reply.Done n e.what))
 
 -- each Done reply has the entry of its number, which names its statement and has its detail
 abbrev pub DoneAreEntries : Script → List Entry → List (List Reply) → Type 0
 DoneAreEntries s history replies =
-  (x : Statement) (n : ℕ) (what : Detail) → Stands s x → reply_to s replies x ≡ Some (reply.Done n what)
-  → (e : Entry) × (entry_at history n ≡ Some e) × Names e x × (e.what ≡ what)
+    (x : Statement) (n : ℕ) (what : Detail) → Stands s x → reply_to s replies x ≡ Some (reply.Done n what)
+    → (e : Entry) × (entry_at history n ≡ Some e) × Names e x × (e.what ≡ what)
 
 -- the command of a statement is accepted by a database, and this is what is told of it
 pub record Accepted (x : Statement) (before : Database) (what : Detail) : Type 0 where
@@ -93,8 +93,8 @@ pub record Accepted (x : Statement) (before : Database) (what : Detail) : Type 0
 -- each entry's command is accepted by the database after the entries before it, and its detail tells that step
 abbrev pub EntriesAreSteps : Script → List Entry → Type 0
 EntriesAreSteps s history =
-  (n : ℕ) (e : Entry) (x : Statement) → entry_at history n ≡ Some e → Stands s x → Names e x
-  → Accepted x (database_after s history (n - 1)) e.what
+    (n : ℕ) (e : Entry) (x : Statement) → entry_at history n ≡ Some e → Stands s x → Names e x
+    → Accepted x (database_after s history (n - 1)) e.what
 
 -- a reply whose number may follow a number of its session: not less, and greater where it is Done
 abbrev pub FollowsNumber : ℕ → Reply → Type 0
@@ -106,14 +106,14 @@ FollowsNumber n (reply.Failed at cause) = n ≤ at
 -- along a session the numbers never fall, and a Done's is greater than every earlier one
 abbrev pub RisesAlong : Script → List (List Reply) → Type 0
 RisesAlong s replies =
-  (x y : Statement) (r q : Reply) → Stands s x → Stands s y → x.session ≡ y.session → x.number < y.number
-  → reply_to s replies x ≡ Some r → reply_to s replies y ≡ Some q → FollowsNumber (number_of r) q
+    (x y : Statement) (r q : Reply) → Stands s x → Stands s y → x.session ≡ y.session → x.number < y.number
+    → reply_to s replies x ≡ Some r → reply_to s replies y ≡ Some q → FollowsNumber (number_of r) q
 
 -- each number of a phase is at least the number of Done replies of the phases before, and at most `upper` of the phase
 abbrev pub WithinPhases : Script → List (List Reply) → (ℕ → ℕ) → Type 0
 WithinPhases s replies upper =
-  (p k : ℕ) (phase : List Statement) (x : Statement) (r : Reply) → slice_get s.phases p ≡ Some phase → slice_get phase k ≡ Some x
-  → reply_to s replies x ≡ Some r → (done_before s replies p ≤ number_of r) × (number_of r ≤ upper p)
+    (p k : ℕ) (phase : List Statement) (x : Statement) (r : Reply) → slice_get s.phases p ≡ Some phase → slice_get phase k ≡ Some x
+    → reply_to s replies x ≡ Some r → (done_before s replies p ≤ number_of r) × (number_of r ≤ upper p)
 
 -- rows are an answer of the statement's query at a database that doesn't refuse it
 pub record Answered (x : Statement) (s : Database) (max : ℕ) (rows : List (List Cell)) : Type 0 where
@@ -125,20 +125,20 @@ pub record Answered (x : Statement) (s : Database) (max : ℕ) (rows : List (Lis
 -- each Rows reply is an answer over the database after as many entries as it tells
 abbrev pub RowsAreAnswers : Script → ℕ → List Entry → List (List Reply) → Type 0
 RowsAreAnswers s max history replies =
-  (x : Statement) (n : ℕ) (rows : List (List Cell)) → Stands s x → reply_to s replies x ≡ Some (reply.Rows n rows)
-  → Answered x (database_after s history n) max rows
+    (x : Statement) (n : ℕ) (rows : List (List Cell)) → Stands s x → reply_to s replies x ≡ Some (reply.Rows n rows)
+    → Answered x (database_after s history n) max rows
 
 -- each Refused reply tells the refusal at the database after as many entries as it tells
 abbrev pub RefusalsAreCaused : Script → ℕ → List Entry → List (List Reply) → Type 0
 RefusalsAreCaused s max history replies =
-  (x : Statement) (n : ℕ) (cause : Refusal) → Stands s x → reply_to s replies x ≡ Some (reply.Refused n cause)
-  → refusal x (database_after s history n) max ≡ Some cause
+    (x : Statement) (n : ℕ) (cause : Refusal) → Stands s x → reply_to s replies x ≡ Some (reply.Refused n cause)
+    → refusal x (database_after s history n) max ≡ Some cause
 
 -- a Failed reply has a cause that its statement may have; want of memory any statement
 abbrev pub FailuresAreCaused : Script → List (List Reply) → Type 0
 FailuresAreCaused s replies =
-  (x : Statement) (n : ℕ) (cause : Failure) → Stands s x → reply_to s replies x ≡ Some (reply.Failed n cause)
-  → cause ≡ failure.Memory
+    (x : Statement) (n : ℕ) (cause : Failure) → Stands s x → reply_to s replies x ≡ Some (reply.Failed n cause)
+    → cause ≡ failure.Memory
 
 -- what holds of the replies so far, with the greatest number that each phase may have
 pub record LegalUpTo (s : Script) (max : ℕ) (upper : ℕ → ℕ) (history : List Entry) (replies : List (List Reply)) : Type 0 where

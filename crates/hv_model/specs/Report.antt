@@ -19,7 +19,7 @@ use Rattle.hv_model.specs.declared.script.Script.{Script}
 abbrev pub detail_text : Detail → List ℕ
 detail_text (detail.Create table) = codes "create " ++ table
 detail_text (detail.Import table chunk rows) =
-  codes "import " ++ table ++ codes " chunk " ++ decimal chunk ++ codes " rows " ++ decimal rows
+    codes "import " ++ table ++ codes " chunk " ++ decimal chunk ++ codes " rows " ++ decimal rows
 
 -- a byte of a text, a quote written twice
 abbrev pub quoted_byte : ℕ → List ℕ
@@ -46,7 +46,7 @@ failure_text Memory = codes "memory"
 abbrev pub reply_text : ℕ → Reply → List ℕ
 reply_text k (reply.Done at what) = decimal k ++ codes " ok @" ++ decimal at ++ codes " " ++ detail_text what ++ codes "\n"
 reply_text k (reply.Rows at rows) =
-  decimal k ++ codes " rows @" ++ decimal at ++ codes " " ++ decimal (length rows) ++ codes "\n" ++ flat_map row_line rows
+    decimal k ++ codes " rows @" ++ decimal at ++ codes " " ++ decimal (length rows) ++ codes "\n" ++ flat_map row_line rows
 reply_text k (reply.Refused at cause) = decimal k ++ codes " refused @" ++ decimal at ++ codes " " ++ refusal_text cause ++ codes "\n"
 reply_text k (reply.Failed at cause) = decimal k ++ codes " failed @" ++ decimal at ++ codes " " ++ failure_text cause ++ codes "\n"
 

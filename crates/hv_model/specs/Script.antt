@@ -1,5 +1,5 @@
 -- Which statements the bytes of a script are, or what its first fault is. This project's own.
-use Rattle.std.specs.Prelude.{◌≡◌, ◌⊎◌, ℕ, ◌+◌, ◌<◌, ◌≤◌, Bool, true, false, not, ◌||◌, ◌&&◌, ◌==◌, nat_le, List, [], ◌∷◌, ◌++◌, length, drop, Option, Some, None, codes, IsSome, if◌then◌else◌}
+use Rattle.std.specs.Prelude.{◌≡◌, ◌⊎◌, ℕ, ◌+◌, ◌<◌, ◌≤◌, Bool, true, false, not, ◌||◌, ◌&&◌, ◌==◌, nat_le, List, [], ◌∷◌, ◌++◌, length, Option, Some, None, codes, IsSome, if◌then◌else◌}
 use Rattle.std.specs.List.{onto_first, list_all}
 use Rattle.hv_model.specs.declared.tree.Ast.{Ast}
 use Rattle.hv_model.specs.declared.tree.Ast.TheVariants.{Create, Import, SelectAll}
@@ -27,7 +27,7 @@ begins_unblank (b ∷ _) = not (is_blank b)
 abbrev pub quoted_behind : Bool → List ℕ → Option Bool
 quoted_behind quoted [] = Some quoted
 quoted_behind quoted (b ∷ bs) =
-  if b == 39 then quoted_behind (not quoted) bs else (if b == 59 && not quoted then None else quoted_behind quoted bs)
+    if b == 39 then quoted_behind (not quoted) bs else (if b == 59 && not quoted then None else quoted_behind quoted bs)
 
 -- a statement's text: it begins with a byte that isn't blank, and the next `;` outside quotes stands right behind it
 pub record IsText (text : List ℕ) : Type 0 where
@@ -53,7 +53,7 @@ behind_return (b ∷ bs) = if b == 10 then Some bs else None
 abbrev pub behind_gap : List ℕ → Option (List ℕ)
 behind_gap [] = None
 behind_gap (b ∷ bs) =
-  if b == 32 || b == 9 then behind_gap bs else (if b == 13 then behind_return bs else (if b == 10 then Some bs else None))
+    if b == 32 || b == 9 then behind_gap bs else (if b == 13 then behind_return bs else (if b == 10 then Some bs else None))
 
 -- where the data of an import begins: behind the rest of the line of its `;`, if that is white, else right behind the `;`
 abbrev pub data_from : Option (List ℕ) → List ℕ → List ℕ
@@ -90,7 +90,7 @@ pub record Takes (bytes : List ℕ) (x : Statement) (after : List ℕ) : Type 0 
 abbrev pub Statements : List ℕ → ℕ → List Statement → List ℕ → Type 0
 Statements bytes k [] rest = bytes ≡ rest
 Statements bytes k (x ∷ xs) rest =
-  (x.session ≡ codes "main") × (x.number ≡ k) × ((after : List ℕ) × Takes bytes x after × Statements after (k + 1) xs rest)
+    (x.session ≡ codes "main") × (x.number ≡ k) × ((after : List ℕ) × Takes bytes x after × Statements after (k + 1) xs rest)
 
 -- the bytes are this script, which has no fault: one session, one phase
 pub record IsScript (bytes : List ℕ) (s : Script) : Type 0 where

@@ -1,5 +1,5 @@
 -- The tokens of a statement's text. This project's own, after the lexical elements of ISO/IEC 9075.
-use Rattle.std.specs.Prelude.{◌≡◌, ℕ, ◌≤◌, Bool, true, false, not, ◌||◌, ◌&&◌, ◌==◌, nat_le, nat_eq, List, [], ◌∷◌, length, map, codes, if◌then◌else◌}
+use Rattle.std.specs.Prelude.{ℕ, Bool, false, not, ◌||◌, ◌&&◌, ◌==◌, nat_le, nat_eq, List, [], ◌∷◌, length, map, codes, if◌then◌else◌}
 use Rattle.std.specs.List.{onto_first, list_any, list_all}
 use Rattle.std.specs.Char.{to_ascii_lowercase}
 use Rattle.std.specs.Cmp.Lexicographic.{pointwise}
@@ -37,11 +37,11 @@ is_word word token = pointwise nat_eq (map to_ascii_lowercase token) (map to_asc
 -- the words that no name may be
 abbrev pub keywords : List (List ℕ)
 keywords =
-  codes "AND" ∷ codes "AS" ∷ codes "ASC" ∷ codes "BARRIER" ∷ codes "BY" ∷ codes "CHUNK" ∷ codes "CHUNKS" ∷ codes "COUNT" ∷ codes "CREATE"
-  ∷ codes "DESC" ∷ codes "FROM" ∷ codes "GROUP" ∷ codes "IMPORT" ∷ codes "INDEX" ∷ codes "INT" ∷ codes "INTO" ∷ codes "IS" ∷ codes "LIMIT"
-  ∷ codes "LINES" ∷ codes "MAX" ∷ codes "MERGE" ∷ codes "MIN" ∷ codes "NOT" ∷ codes "NULL" ∷ codes "OF" ∷ codes "OR" ∷ codes "ORDER"
-  ∷ codes "PURGE" ∷ codes "RANGE" ∷ codes "SELECT" ∷ codes "SESSION" ∷ codes "SUM" ∷ codes "SUMMARY" ∷ codes "TABLE" ∷ codes "TEXT"
-  ∷ codes "WHERE" ∷ []
+    codes "AND" ∷ codes "AS" ∷ codes "ASC" ∷ codes "BARRIER" ∷ codes "BY" ∷ codes "CHUNK" ∷ codes "CHUNKS" ∷ codes "COUNT" ∷ codes "CREATE"
+    ∷ codes "DESC" ∷ codes "FROM" ∷ codes "GROUP" ∷ codes "IMPORT" ∷ codes "INDEX" ∷ codes "INT" ∷ codes "INTO" ∷ codes "IS" ∷ codes "LIMIT"
+    ∷ codes "LINES" ∷ codes "MAX" ∷ codes "MERGE" ∷ codes "MIN" ∷ codes "NOT" ∷ codes "NULL" ∷ codes "OF" ∷ codes "OR" ∷ codes "ORDER"
+    ∷ codes "PURGE" ∷ codes "RANGE" ∷ codes "SELECT" ∷ codes "SESSION" ∷ codes "SUM" ∷ codes "SUMMARY" ∷ codes "TABLE" ∷ codes "TEXT"
+    ∷ codes "WHERE" ∷ []
 
 -- whether a token is a keyword
 abbrev pub is_keyword : List ℕ → Bool

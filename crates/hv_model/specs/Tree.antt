@@ -1,5 +1,5 @@
 -- The tree of a statement's text, as far as statements are built. This project's own, after ISO/IEC 9075, table definition and query specification.
-use Rattle.std.specs.Prelude.{ℕ, ◌+◌, Bool, true, false, ◌&&◌, List, [], ◌∷◌, Option, Some, None, codes, min, if◌then◌else◌}
+use Rattle.std.specs.Prelude.{ℕ, false, ◌&&◌, List, [], ◌∷◌, Option, Some, None, codes, min, if◌then◌else◌}
 use Rattle.std.specs.Option.{option_map}
 use Rattle.std.specs.Str.Parse.{digits_value}
 use Rattle.hv_row.specs.declared.value.ColType.{ColType}
@@ -33,10 +33,10 @@ columns_of [] = None
 columns_of (name ∷ []) = None
 columns_of (name ∷ kind ∷ []) = None
 columns_of (name ∷ kind ∷ mark ∷ behind) =
-  if is_name name
-  then (if is_symbol 41 mark then column_before name (type_named kind) (nothing_behind behind)
-        else (if is_symbol 44 mark then column_before name (type_named kind) (columns_of behind) else None))
-  else None
+    if is_name name
+    then (if is_symbol 41 mark then column_before name (type_named kind) (nothing_behind behind)
+    else (if is_symbol 44 mark then column_before name (type_named kind) (columns_of behind) else None))
+    else None
 
 -- what stands behind CREATE: `TABLE name ( columns )`
 abbrev pub create_of : List (List ℕ) → Option Ast
@@ -44,28 +44,28 @@ create_of [] = None
 create_of (table ∷ []) = None
 create_of (table ∷ name ∷ []) = None
 create_of (table ∷ name ∷ mark ∷ behind) =
-  if is_word (codes "TABLE") table && is_name name && is_symbol 40 mark then option_map (λ columns. Create name columns) (columns_of behind) else None
+    if is_word (codes "TABLE") table && is_name name && is_symbol 40 mark then option_map (λ columns. Create name columns) (columns_of behind) else None
 
 -- what stands behind IMPORT: `INTO name LINES number`; a number over 1,000,000 is kept as 1,000,001
 abbrev pub import_of : List (List ℕ) → Option Ast
 import_of (into ∷ name ∷ lines ∷ number ∷ []) =
-  if is_word (codes "INTO") into && is_name name && is_word (codes "LINES") lines && is_number number
-  then Some (Import name (min (digits_value 10 number) 1000001)) else None
+    if is_word (codes "INTO") into && is_name name && is_word (codes "LINES") lines && is_number number
+    then Some (Import name (min (digits_value 10 number) 1000001)) else None
 import_of _ = None
 
 -- what stands behind SELECT: `* FROM name`
 abbrev pub select_of : List (List ℕ) → Option Ast
 select_of (star ∷ from ∷ name ∷ []) =
-  if is_symbol 42 star && is_word (codes "FROM") from && is_name name then Some (SelectAll name) else None
+    if is_symbol 42 star && is_word (codes "FROM") from && is_name name then Some (SelectAll name) else None
 select_of _ = None
 
 -- the tree of a list of tokens
 abbrev pub tree_of_tokens : List (List ℕ) → Option Ast
 tree_of_tokens [] = None
 tree_of_tokens (first ∷ behind) =
-  if is_word (codes "CREATE") first then create_of behind
-  else (if is_word (codes "IMPORT") first then import_of behind
-        else (if is_word (codes "SELECT") first then select_of behind else None))
+    if is_word (codes "CREATE") first then create_of behind
+    else (if is_word (codes "IMPORT") first then import_of behind
+    else (if is_word (codes "SELECT") first then select_of behind else None))
 
 -- the tree of a text, where it has one
 abbrev pub tree_of : List ℕ → Option Ast
