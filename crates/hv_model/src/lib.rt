@@ -4,6 +4,7 @@
 
 mod catalogue;
 mod query;
+mod reading;
 mod reply;
 mod script;
 mod token;
@@ -13,6 +14,7 @@ pub use catalogue::{
     Chunk, Chunks, Command, Database, Detail, Entries, Entry, StepRefusal, Table, Tables,
 };
 pub use query::{BoundQuery, Cell, ColRef, Item, Items, OutRow, OutRows, Places};
+pub use reading::{MAX_IMPORT_LINES, lines_wanted, tree_of};
 pub use reply::{Failure, Refusal, Replies, Reply};
 pub use script::{FaultName, Options, Phase, Phases, Script, ScriptFault, SessionNames, Statement};
 pub use token::{
