@@ -1,5 +1,5 @@
 -- What a statement asks of a database: its command, its query, its refusal; and the database after a history. This project's own.
-use Rattle.std.specs.Prelude.{ℕ, ◌+◌, ◌-◌, Bool, false, ◌&&◌, ◌||◌, ◌==◌, nat_le, List, length, Option, Some, None, Result, Ok, Err, is_some, is_none, is_ok, find, fold, take, slice_get, if◌then◌else◌}
+use Rattle.std.specs.Prelude.{◌≡◌, ℕ, zero, suc, ◌+◌, ◌-◌, Bool, true, false, ◌&&◌, ◌||◌, ◌==◌, nat_le, List, [], ◌∷◌, ◌++◌, length, Option, Some, None, Result, Ok, Err, is_some, is_none, is_ok, find, fold, take, slice_get, if◌then◌else◌}
 use Rattle.std.specs.List.{flat_map}
 use Rattle.std.specs.Option.{option_and_then, option_map}
 use Rattle.hv_row.specs.declared.schema.Column.{Column}
@@ -115,4 +115,5 @@ database_after script history n = replay_from script empty_database (take n hist
 
 -- the n-th entry of a history, counted from 1
 abbrev pub entry_at : List Entry → ℕ → Option Entry
-entry_at history n = if nat_le 1 n then slice_get history (n - 1) else None
+entry_at history zero = None
+entry_at history (suc n) = slice_get history n

@@ -6,5 +6,6 @@ pub mod Database
 pub mod Query
 pub mod Command
 pub mod Legal
+pub mod OneSession
 pub mod Report
 pub mod Words

@@ -56,12 +56,6 @@ pub fn lines_wanted(text: &[u8]) -> u32
     }
 }
 
-fn bytes_of(alloc: Global, text: &[u8]) -> Result<Bytes, AllocError>
-    ensures { IfOk result (λ bytes. bytes ≡ text.now) }
-{
-    Ok(Bytes::from_vec(Vec::from_slice(alloc, text)?))
-}
-
 fn type_named(token: &[u8]) -> Option<ColType>
     ensures { result ≡ type_named token.now }
 {
@@ -78,7 +72,7 @@ fn plain_column(alloc: Global, name: &[u8], kind: ColType) -> Result<Column, All
     ensures { IfOk result (λ column. column ≡ plain_column name.now kind) }
 {
     Ok(Column {
-        name: bytes_of(alloc, name)?,
+        name: Bytes::from_slice(alloc, name)?,
         kind,
         index: false,
         range: false,
@@ -160,7 +154,7 @@ fn create_of(alloc: Global, text: &[u8]) -> Result<Option<Ast>, AllocError>
         return Ok(None);
     };
     Ok(Some(Ast::Create {
-        table: bytes_of(alloc, table)?,
+        table: Bytes::from_slice(alloc, table)?,
         columns,
     }))
 }
@@ -172,7 +166,7 @@ fn import_of(alloc: Global, text: &[u8]) -> Result<Option<Ast>, AllocError>
         return Ok(None);
     };
     Ok(Some(Ast::Import {
-        table: bytes_of(alloc, words.table)?,
+        table: Bytes::from_slice(alloc, words.table)?,
         lines: words.lines,
     }))
 }
@@ -201,7 +195,7 @@ fn select_of(alloc: Global, text: &[u8]) -> Result<Option<Ast>, AllocError>
         return Ok(None);
     };
     Ok(Some(Ast::SelectAll {
-        table: bytes_of(alloc, table)?,
+        table: Bytes::from_slice(alloc, table)?,
     }))
 }
 

@@ -10,7 +10,7 @@ pub trait Copied: Drop {
         ensures { IfOk result (λ c. c ≡ self.now) };
 
     /// A copy of each item in order. A type whose bytes can be moved at once overrides it.
-    fn copy_all(items: &[Self], alloc: Global) -> Result<Vec<Self>, AllocError>
+    fn copy_all(alloc: Global, items: &[Self]) -> Result<Vec<Self>, AllocError>
         ensures { IfOk result (λ v. v.items ≡ items.now) }
     {
         let mut copies = Vec::with_capacity(alloc, items.len())?;
@@ -26,7 +26,7 @@ impl Copied for u8 {
         Ok(*self)
     }
 
-    fn copy_all(items: &[u8], alloc: Global) -> Result<Vec<u8>, AllocError> {
+    fn copy_all(alloc: Global, items: &[u8]) -> Result<Vec<u8>, AllocError> {
         Vec::from_slice(alloc, items)
     }
 }

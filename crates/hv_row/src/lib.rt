@@ -5,11 +5,15 @@
 mod bytes;
 mod copied;
 mod listed;
+mod row;
 mod schema;
+#[cfg(test)]
+mod tests;
 mod value;
 
 pub use bytes::Bytes;
 pub use copied::Copied;
 pub use listed::Listed;
-pub use schema::{Column, Columns, MAX_COLUMNS, Schema, first_repeated, has_column};
+pub use row::{MAX_ROW_BYTES, MAX_TEXT_BYTES, fits_type, is_text, row_fits, row_length};
+pub use schema::{Column, Columns, MAX_COLUMNS, Schema, first_repeated, has_column, is_schema};
 pub use value::{ColType, Row, Rows, Value, compare};

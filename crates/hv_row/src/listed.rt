@@ -1,12 +1,19 @@
 // A list that contracts see as the list of its elements.
-ghost use Rattle.std.specs.Prelude.{◌≡◌, [], ◌∷◌, ◌++◌, ◌<◌, ◌≤◌, ◌↔◌, length, take, slice_get, IsTrue, IfOk, OnOk, OnErr, OnSome, MatchOption};
+ghost use Rattle.std.specs.Prelude.{◌≡◌, [], ◌∷◌, ◌++◌, ◌-◌, ◌<◌, ◌≤◌, ◌↔◌, length, take, drop, slice_get, slice_set, IsTrue, IfOk, OnOk, OnErr, OnSome, MatchOption};
 ghost use Rattle.std.specs.Option.{option_copied};
 ghost use Rattle.std.specs.Cmp.Lexicographic.{pointwise, slice_cmp, slice_partial_cmp, lists_equiv, lists_agrees, lists_total, lists_ties, lists_po, lists_per};
+ghost use Rattle.std.specs.Hash as fed;
+ghost use Rattle.std.specs.Hash.{items_Alike};
+ghost use Rattle.std.specs.Slice.Iter.{iter_rest};
+ghost use Rattle.std.specs.Iterator.Adapters.{IterYieldsInOrder, IterYieldsInReverse};
 
 use crate::Copied;
 use std::alloc::{AllocError, Global};
 use std::cmp::Ordering;
+use std::hash::{Hash, Hasher};
 use std::marker::Model;
+use std::mem;
+use std::slice::Iter;
 
 /// A `Vec` that contracts see as the list of its elements.
 #[derive(Debug, Drop)]
@@ -63,6 +70,16 @@ impl<T: Ord> Ord for Listed<T> {
     }
 }
 
+impl<T: Hash> Hash for Listed<T> {
+    ghost hash_input = { fed.slice T.hash_input };
+
+    ghost respects_eq = { (items_Alike (record { fed = T.respects_eq })).fed };
+
+    fn hash<H: Hasher>(&self, state: &mut H) {
+        self.as_slice().hash(state);
+    }
+}
+
 impl<T> Listed<T> {
     pub fn new(alloc: Global) -> Listed<T>
         ensures { result ≡ [] }
@@ -70,6 +87,14 @@ impl<T> Listed<T> {
         Listed {
             items: Vec::new(alloc),
         }
+    }
+
+    /// An empty list with room for this many items; contracts do not see the room.
+    pub fn with_capacity(alloc: Global, room: usize) -> Result<Listed<T>, AllocError>
+        ensures { IfOk result (λ list. list ≡ []) }
+    {
+        let items = Vec::with_capacity(alloc, room)?;
+        Ok(Listed { items })
     }
 
     /// The list of a `Vec`; takes no memory.
@@ -93,6 +118,16 @@ impl<T> Listed<T> {
         self.items.as_slice()
     }
 
+    /// The items in order, or from the back.
+    pub fn iter(&self) -> Iter<'_, T>
+        ensures rest { iter_rest result ≡ self.now }
+        ensures len { length (iter_rest result) ≡ length self.now }
+        ensures runs { IterYieldsInOrder T }
+        ensures runs_back { IterYieldsInReverse T }
+    {
+        self.items.as_slice().iter()
+    }
+
     pub fn len(&self) -> usize
         ensures { result ≡ length self.now }
     {
@@ -105,6 +140,7 @@ impl<T> Listed<T> {
         self.items.is_empty()
     }
 
+    /// The item at this place, counted from 0; `None` past the end.
     pub fn get(&self, at: usize) -> Option<&T>
         ensures value { option_copied result ≡ slice_get self.now at }
         ensures within { OnSome result (at < length self.now) }
@@ -112,6 +148,25 @@ impl<T> Listed<T> {
         self.items.get(at)
     }
 
+    /// The last item; `None` where there is none.
+    pub fn last(&self) -> Option<&T>
+        ensures value { option_copied result ≡ slice_get self.now (length self.now - 1) }
+        ensures within { OnSome result (0 < length self.now) }
+    {
+        self.items.last()
+    }
+
+    /// Puts an item in the place of another, which comes back. Takes no memory, so that a list inside a list is changed
+    /// by taking it out, changing it and putting it back.
+    pub fn replace(&mut self, at: usize, item: T) -> T
+        requires { at < length self.old }
+        ensures replaced { slice_get self.old at ≡ Some result }
+        ensures new { self.new ≡ slice_set self.old at item }
+    {
+        mem::replace(&mut self.items[at], item)
+    }
+
+    /// Takes the last item off; `None` where there is none.
     pub fn pop(&mut self) -> Option<T>
         ensures { MatchOption result ((self.old ≡ []) × (self.new ≡ [])) (λ last. self.old ≡ self.new ++ last ∷ []) }
     {
@@ -119,13 +174,44 @@ impl<T> Listed<T> {
     }
 }
 
+impl<T: Copied> Listed<T> {
+    /// The list of copies of these items.
+    pub fn from_slice(alloc: Global, items: &[T]) -> Result<Listed<T>, AllocError>
+        ensures { IfOk result (λ list. list ≡ items.now) }
+    {
+        Ok(Listed {
+            items: T::copy_all(alloc, items)?,
+        })
+    }
+}
+
 impl<T: Drop> Listed<T> {
+    /// Puts an item at the end; `Err` only for want of memory, as of every call here that has one.
     pub fn push(&mut self, item: T) -> Result<(), AllocError>
         ensures ok { OnOk result (self.new ≡ self.old ++ item ∷ []) }
         ensures err { OnErr result (self.new ≡ self.old) }
     {
         self.items.push(item)?;
         Ok(())
+    }
+
+    /// Puts an item before the one at this place, or at the end.
+    pub fn insert(&mut self, at: usize, item: T) -> Result<(), AllocError>
+        requires { at ≤ length self.old }
+        ensures ok { OnOk result (self.new ≡ take at self.old ++ item ∷ drop at self.old) }
+        ensures err { OnErr result (self.new ≡ self.old) }
+    {
+        self.items.insert(at, item)?;
+        Ok(())
+    }
+
+    /// Moves the items of another list to the end.
+    pub fn append(&mut self, more: Listed<T>) -> Result<(), AllocError>
+        ensures ok { OnOk result (self.new ≡ self.old ++ more) }
+        ensures err { OnErr result (self.new ≡ self.old) }
+    {
+        let Listed { mut items } = more;
+        self.items.append(&mut items)
     }
 
     /// Drops all but the first `len` items.
@@ -139,7 +225,7 @@ impl<T: Drop> Listed<T> {
 impl<T: Copied> Copied for Listed<T> {
     fn copy(&self, alloc: Global) -> Result<Listed<T>, AllocError> {
         Ok(Listed {
-            items: T::copy_all(self.as_slice(), alloc)?,
+            items: T::copy_all(alloc, self.as_slice())?,
         })
     }
 }

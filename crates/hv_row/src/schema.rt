@@ -1,5 +1,5 @@
 // Columns and schemas.
-ghost use Rattle.std.specs.Prelude.{◌≡◌, IfOk};
+ghost use Rattle.std.specs.Prelude.{◌≡◌, ◌↔◌, IfOk, IsTrue};
 ghost use Rattle.hv_row.specs.Schema.{has_column, first_repeated, IsSchema};
 
 use crate::{Bytes, ColType, Copied, Listed};
@@ -103,4 +103,11 @@ pub fn first_repeated(columns: &[Column]) -> Option<usize>
         }
     }
     None
+}
+
+/// Whether these are the columns of a table: 1 to 32 with distinct names (this project's own limit).
+pub fn is_schema(columns: &[Column]) -> bool
+    ensures { IsTrue result ↔ IsSchema columns.now }
+{
+    !columns.is_empty() && columns.len() <= MAX_COLUMNS && first_repeated(columns).is_none()
 }

@@ -1,0 +1,2 @@
+mod Buffering
+mod Putting

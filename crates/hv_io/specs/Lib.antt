@@ -1,0 +1,4 @@
+pub mod Bytes
+pub mod Counts
+pub mod Printing
+pub mod Putting

@@ -1,0 +1,115 @@
+// A buffer before a sink.
+ghost use Rattle.std.specs.Prelude.{◌≡◌, ℕ, ◌+◌, ◌≤◌, List, [], ◌++◌, length, Ok, IfOk, OnOk, OnErr, IfErr, IsOk, IsTrue, ◌↔◌};
+ghost use Rattle.hv_io.specs.Bytes.{Seen, seen};
+ghost use Rattle.hv_io.specs.Printing.{HasPrinted, Printing, Prints, blank};
+ghost use Rattle.hv_io.specs.Putting.{TookAll, Stopped};
+
+use crate::sink::Sink;
+use crate::writing::{PutAll, put};
+use std::alloc::{AllocError, Global};
+use std::marker::Model;
+
+/// How many bytes a printer hands over at a time.
+pub const PIECE_BYTES: usize = 16384;
+
+/// A buffer before a sink that each call is passed: it takes its memory once, and hands over `PIECE_BYTES` at a time.
+#[derive(Drop)]
+pub struct Printer {
+    pending: Vec<u8>,
+    outcome: Result<(), PutAll>,
+}
+
+impl Model for Printer {
+    ghost use Rattle.std.specs.Prelude.{◌≤◌, vec_len, vec_capacity};
+    ghost use Rattle.hv_io.specs.Printing.{Printing};
+
+    ghost Value = { Printing };
+
+    ghost view = { λ it. record { pending = it.pending.items; outcome = it.outcome } };
+
+    ghost invariant = { λ it. (vec_len it.pending ≤ 16384) × (16384 ≤ vec_capacity it.pending) };
+}
+
+impl Printer {
+    /// An empty printer, with the memory for all that it will hold back.
+    pub fn new(alloc: Global) -> Result<Printer, AllocError>
+        ensures blank { IfOk result (λ printer. printer ≡ blank) }
+        ensures start { IfOk result (λ printer. (start : Seen) → HasPrinted start [] start printer) }
+    {
+        Ok(Printer {
+            pending: Vec::with_capacity(alloc, PIECE_BYTES)?,
+            outcome: Ok(()),
+        })
+    }
+
+    /// Puts bytes behind what was put before. After a fault of the sink nothing more is handed over. Takes no memory.
+    pub fn put<K: Sink>(&mut self, out: &mut K, bytes: &[u8])
+        ensures prints { Prints bytes.now (seen K.taken K.faults K.zeros out.old) self.old (seen K.taken K.faults K.zeros out.new) self.new }
+        ensures stays { OnErr self.old.outcome (seen K.taken K.faults K.zeros out.new ≡ seen K.taken K.faults K.zeros out.old) }
+    {
+        let mut rest = bytes;
+        while self.goes_on() && self.room() < rest.len() {
+            let (head, tail) = rest.split_at(self.room());
+            self.hold(head);
+            self.flush(out);
+            rest = tail;
+        }
+        if self.goes_on() {
+            self.hold(rest);
+        }
+    }
+
+    /// Hands over what was held back, and tells what became of all that was put. Takes no memory.
+    pub fn finish<K: Sink>(self, out: &mut K) -> Result<(), PutAll>
+        ensures all { (start : Seen) (text : List ℕ) → HasPrinted start text (seen K.taken K.faults K.zeros out.old) self → OnOk result (TookAll start text (seen K.taken K.faults K.zeros out.new)) }
+        ensures part { (start : Seen) (text : List ℕ) → HasPrinted start text (seen K.taken K.faults K.zeros out.old) self → IfErr result (λ cause. Stopped start text (seen K.taken K.faults K.zeros out.new) cause) }
+        ensures whole { (start : Seen) (old : Printing) (text : List ℕ) → Prints text start old (seen K.taken K.faults K.zeros out.old) self → old ≡ blank → OnOk result (TookAll start text (seen K.taken K.faults K.zeros out.new)) }
+        ensures cut { (start : Seen) (old : Printing) (text : List ℕ) → Prints text start old (seen K.taken K.faults K.zeros out.old) self → old ≡ blank → IfErr result (λ cause. Stopped start text (seen K.taken K.faults K.zeros out.new) cause) }
+    {
+        let mut printer = self;
+        printer.end(out)
+    }
+
+    // Hands over what was held back, unless a fault came before.
+    fn end<K: Sink>(&mut self, out: &mut K) -> Result<(), PutAll>
+        ensures all { (start : Seen) (text : List ℕ) → HasPrinted start text (seen K.taken K.faults K.zeros out.old) self.old → OnOk result (TookAll start text (seen K.taken K.faults K.zeros out.new)) }
+        ensures part { (start : Seen) (text : List ℕ) → HasPrinted start text (seen K.taken K.faults K.zeros out.old) self.old → IfErr result (λ cause. Stopped start text (seen K.taken K.faults K.zeros out.new) cause) }
+    {
+        if self.goes_on() {
+            self.flush(out);
+        }
+        self.outcome
+    }
+
+    // Whether no fault came so far.
+    fn goes_on(&self) -> bool
+        ensures { IsTrue result ↔ IsOk self.now.outcome }
+    {
+        self.outcome.is_ok()
+    }
+
+    // How many more bytes it can hold back.
+    fn room(&self) -> usize
+        ensures { result + length self.now.pending ≡ 16384 }
+    {
+        PIECE_BYTES - self.pending.len()
+    }
+
+    // Holds bytes back, for which there is room.
+    fn hold(&mut self, bytes: &[u8])
+        requires { length self.old.pending + length bytes.now ≤ 16384 }
+        ensures { self.new ≡ record self.old { pending = self.old.pending ++ bytes.now } }
+    {
+        let _ = self.pending.extend_from_slice(bytes);
+    }
+
+    // Hands over what was held back.
+    fn flush<K: Sink>(&mut self, out: &mut K)
+        requires { IsOk self.old.outcome }
+        ensures held { self.new.pending ≡ [] }
+        ensures prints { (start : Seen) (text : List ℕ) → HasPrinted start text (seen K.taken K.faults K.zeros out.old) self.old → HasPrinted start text (seen K.taken K.faults K.zeros out.new) self.new }
+    {
+        self.outcome = put(out, self.pending.as_slice());
+        self.pending.clear();
+    }
+}

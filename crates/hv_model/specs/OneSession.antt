@@ -1,0 +1,82 @@
+-- A script of one session and one phase, whose statements are answered one after another: what each answer owes, and what holds behind each.
+use Rattle.std.specs.Prelude.{◌≡◌, ℕ, ◌+◌, ◌-◌, ◌<◌, ◌≤◌, ◌^◌, List, [], ◌∷◌, ◌++◌, length, Option, Some, None, Ok, codes, count_by, slice_get}
+use Rattle.hv_model.specs.declared.script.Statement.{Statement}
+use Rattle.hv_model.specs.declared.script.Script.{Script}
+use Rattle.hv_model.specs.declared.catalogue.Database.{Database}
+use Rattle.hv_model.specs.declared.catalogue.Command.{Command}
+use Rattle.hv_model.specs.declared.catalogue.Detail.{Detail}
+use Rattle.hv_model.specs.declared.catalogue.Entry.{Entry}
+use Rattle.hv_model.specs.declared.reply.Reply.{Reply}
+use Rattle.hv_model.specs.declared.reply.Reply.TheVariants.{Done, Rows, Refused, Failed}
+use Rattle.hv_model.specs.declared.reply.Refusal.{Refusal}
+use Rattle.hv_model.specs.declared.query.Cell.{Cell}
+use Rattle.hv_model.specs.Database.{step}
+use Rattle.hv_model.specs.Command.{command_at, refusal, detail_of, database_after, entry_at}
+use Rattle.hv_model.specs.Legal.{number_of, is_done, Names, Accepted, Answered, FollowsNumber}
+
+-- the script has the session `main` alone, and one phase of these statements, numbered from 1
+pub record IsOneSession (s : Script) (xs : List Statement) : Type 0 where
+  pub sessions : s.sessions ≡ codes "main" ∷ []
+  pub phases : s.phases ≡ xs ∷ []
+  pub of_main : (k : ℕ) (x : Statement) → slice_get xs k ≡ Some x → x.session ≡ codes "main"
+  pub numbers : (k : ℕ) (x : Statement) → slice_get xs k ≡ Some x → x.number ≡ k + 1
+
+-- the command of a statement was accepted, and its entry is the last of the longer history
+pub record Commits (x : Statement) (before : Database) (history : List Entry) (at : ℕ) (what : Detail) (new : Database) (longer : List Entry) : Type 0 where
+  pub entry : Entry
+  pub names : Names entry x
+  pub told : entry.what ≡ what
+  pub is_longer : longer ≡ history ++ entry ∷ []
+  pub at_is : at ≡ length history + 1
+  pub command : Command
+  pub is : command_at x before ≡ Some command
+  pub steps : step before command ≡ Ok new
+  pub detail : what ≡ detail_of before command
+
+-- nothing has changed, and the reply tells the present length
+pub record Stays (before : Database) (history : List Entry) (at : ℕ) (new : Database) (longer : List Entry) : Type 0 where
+  pub same_database : new ≡ before
+  pub same_history : longer ≡ history
+  pub at_is : at ≡ length history
+
+-- what the answer to one statement owes: its reply, the database behind it and the history behind it
+abbrev pub Settles : Statement → ℕ → Database → List Entry → Reply → Database → List Entry → Type 0
+Settles x max before history (Done at what) new longer = Commits x before history at what new longer
+Settles x max before history (Rows at rows) new longer = Stays before history at new longer × Answered x before max rows
+Settles x max before history (Refused at cause) new longer = Stays before history at new longer × (refusal x before max ≡ Some cause)
+Settles x max before history (Failed at cause) new longer = Stays before history at new longer
+
+-- an entry names a statement that has its Done reply
+pub record HasReply (xs : List Statement) (replies : List Reply) (n : ℕ) (e : Entry) : Type 0 where
+  pub place : ℕ
+  pub statement : Statement
+  pub stands : slice_get xs place ≡ Some statement
+  pub names : Names e statement
+  pub reply : slice_get replies place ≡ Some (Done n e.what)
+
+-- a statement whose reply is Done has its entry
+pub record HasEntry (history : List Entry) (x : Statement) (n : ℕ) (what : Detail) : Type 0 where
+  pub entry : Entry
+  pub stands : entry_at history n ≡ Some entry
+  pub names : Names entry x
+  pub told : entry.what ≡ what
+
+-- what holds of the replies to the first statements: the parts of a legal outcome, by places
+pub record LegalSoFar (s : Script) (xs : List Statement) (max : ℕ) (history : List Entry) (replies : List Reply) : Type 0 where
+  pub entries : (n : ℕ) (e : Entry) → entry_at history n ≡ Some e → HasReply xs replies n e
+  pub done : (k : ℕ) (x : Statement) (n : ℕ) (what : Detail) → slice_get xs k ≡ Some x → slice_get replies k ≡ Some (Done n what) → HasEntry history x n what
+  pub steps : (n : ℕ) (e : Entry) (k : ℕ) (x : Statement) → entry_at history n ≡ Some e → slice_get xs k ≡ Some x → Names e x
+      → Accepted x (database_after s history (n - 1)) e.what
+  pub along : (j k : ℕ) (r q : Reply) → j < k → slice_get replies j ≡ Some r → slice_get replies k ≡ Some q → FollowsNumber (number_of r) q
+  pub within : (k : ℕ) (r : Reply) → slice_get replies k ≡ Some r → number_of r ≤ length history
+  pub rows : (k : ℕ) (x : Statement) (n : ℕ) (rows : List (List Cell)) → slice_get xs k ≡ Some x → slice_get replies k ≡ Some (Rows n rows)
+      → Answered x (database_after s history n) max rows
+  pub refused : (k : ℕ) (x : Statement) (n : ℕ) (cause : Refusal) → slice_get xs k ≡ Some x → slice_get replies k ≡ Some (Refused n cause)
+      → refusal x (database_after s history n) max ≡ Some cause
+  pub counted : count_by is_done replies ≡ length history
+
+-- what holds between two statements
+pub record Kept (s : Script) (xs : List Statement) (max : ℕ) (now : Database) (history : List Entry) (replies : List Reply) : Type 0 where
+  pub database : now ≡ database_after s history (length history)
+  pub short : length replies ≤ length xs
+  pub legal : LegalSoFar s xs max history replies

@@ -1,0 +1,77 @@
+// Rows under a schema, and how long their bytes are.
+ghost use Rattle.std.specs.Prelude.{◌≡◌, ◌≤◌, ◌↔◌, length, IsTrue};
+ghost use Rattle.hv_row.specs.Value.{FitsType, IsTextValue, value_bytes};
+ghost use Rattle.hv_row.specs.Row.{RowFits, row_bytes};
+
+use crate::{ColType, Column, Value};
+
+/// The most bytes that a row takes in a page: this project's own.
+pub const MAX_ROW_BYTES: u32 = 2000;
+
+/// The most bytes of a text in a column, so that one byte has its length: this project's own.
+pub const MAX_TEXT_BYTES: usize = 255;
+
+const INT_BYTES: usize = 8;
+
+/// Whether a column of texts may hold these bytes: UTF-8 (RFC 3629) of at most 255 bytes.
+pub fn is_text(bytes: &[u8]) -> bool
+    ensures { IsTrue result ↔ IsTextValue bytes.now }
+{
+    bytes.len() <= MAX_TEXT_BYTES && str::from_utf8(bytes).is_ok()
+}
+
+/// Whether a column of this type may hold this value.
+pub fn fits_type(value: &Value, kind: ColType) -> bool
+    ensures { IsTrue result ↔ FitsType kind value.now }
+{
+    match (kind, value) {
+        (ColType::Int, Value::Int(number)) => {
+            // A number that is read is known to have 64 bits.
+            let _number = *number;
+            true
+        }
+        (ColType::Text, Value::Text(bytes)) => is_text(bytes.as_slice()),
+        _ => false,
+    }
+}
+
+/// Whether a table of these columns may hold this row: one value for each column, of its type.
+pub fn row_fits(row: &[Value], schema: &[Column]) -> bool
+    ensures { IsTrue result ↔ RowFits schema.now row.now }
+{
+    if row.len() != schema.len() {
+        return false;
+    }
+    for (at, column) in schema.iter().enumerate() {
+        if !fits_type(&row[at], column.kind) {
+            return false;
+        }
+    }
+    true
+}
+
+/// How many bytes a row takes: 8 for a number; one more than it has for a text, whose length stands before it.
+/// At most 8,192, for 32 columns of 256 bytes.
+pub fn row_length(row: &[Value], schema: &[Column]) -> usize
+    requires fits { RowFits schema.now row.now }
+    requires short { length schema.now ≤ 32 }
+    ensures { result ≡ length (row_bytes schema.now row.now) }
+{
+    let mut total = 0;
+    for (at, column) in schema.iter().enumerate() {
+        total += value_length(&row[at], column.kind);
+    }
+    total
+}
+
+// How many bytes a value of a row takes.
+fn value_length(value: &Value, kind: ColType) -> usize
+    requires { FitsType kind value.now }
+    ensures bytes { result ≡ length (value_bytes kind value.now) }
+    ensures short { result ≤ 256 }
+{
+    match value {
+        Value::Int(_) => INT_BYTES,
+        Value::Text(bytes) => 1 + bytes.len(),
+    }
+}
