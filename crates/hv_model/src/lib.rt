@@ -7,6 +7,8 @@ mod query;
 mod reading;
 mod reply;
 mod script;
+#[cfg(test)]
+mod tests;
 mod token;
 mod tree;
 
