@@ -4,7 +4,7 @@ use Rattle.std.specs.Option.{option_map}
 use Rattle.hv_row.specs.declared.value.ColType.{ColType}
 use Rattle.hv_row.specs.declared.schema.Column.{Column}
 use Rattle.hv_model.specs.declared.tree.Ast.{Ast}
-use Rattle.hv_model.specs.declared.tree.Ast.TheVariants.{Create, Import, SelectAll}
+use Rattle.hv_model.specs.declared.tree.Ast.TheVariants.{Create, SelectAll}
 use Rattle.hv_model.specs.Token.{is_word, is_name, is_symbol}
 use Rattle.hv_model.specs.Tree.{plain_column, column_before, create_of, columns_of, select_of, tree_of_tokens}
 use Rattle.hv_model.specs.Script.{lines_wanted}

@@ -1,4 +1,4 @@
-use Rattle.std.proofs.Common.{◌≡◌, ◌∙◌, ap, sym, codes, false, arith}
+use Rattle.std.proofs.Common.{◌≡◌, ◌∙◌, ap, sym, codes, false}
 use Rattle.hv_model.specs.Token.{tokens, is_word}
 use Rattle.hv_model.specs.Tree.{tree_of_tokens}
 use Rattle.hv_model.specs.Script.{lines_wanted}
