@@ -1,8 +1,7 @@
 -- What holds of the replies so far holds of one more, where the statement's answer keeps its contract.
-use Rattle.std.proofs.Common.{◌≡◌, ◌⊎◌, ℕ, zero, suc, ◌+◌, ◌-◌, ◌<◌, ◌≤◌, ◌≢◌, List, [], ◌∷◌, ◌++◌, length, take, Option, Some, None, Ok, inl, inr, refl, ap, sym, ◌∙◌, subst, arith, count_by, Bool, true, false, cond, rules, eq-eqb, eqb-true, fold, le_refl, add-one, length-append}
-use Rattle.std.specs.Prelude.{find, codes, ◌==◌, ◌&&◌, nat_eq}
-use Rattle.std.specs.List.{slice_get, flat_map}
-use Rattle.std.specs.Cmp.Lexicographic.{pointwise}
+use Rattle.std.proofs.Common.{◌≡◌, ◌⊎◌, ℕ, zero, suc, ◌+◌, ◌-◌, ◌<◌, ◌≤◌, ◌≢◌, List, [], ◌∷◌, ◌++◌, length, Some, Ok, inl, inr, refl, ap, sym, ◌∙◌, subst, arith, count_by, Bool, true, false, cond, eq-eqb, eqb-true, le_refl, add-one, length-append}
+use Rattle.std.specs.Prelude.{find, ◌==◌, ◌&&◌}
+use Rattle.std.specs.List.{slice_get}
 use Rattle.std.proofs.lemmas.Option.{slice_get_within}
 use Rattle.std.proofs.lemmas.List.{append-nil, take-append-le}
 use Rattle.std.proofs.Math.Seq.{take-length}
@@ -19,10 +18,10 @@ use Rattle.hv_model.specs.declared.query.Cell.{Cell}
 use Rattle.hv_model.specs.declared.reply.Reply.{Reply}
 use Rattle.hv_model.specs.declared.reply.Reply.TheVariants.{Done, Rows, Refused, Failed}
 use Rattle.hv_model.specs.Database.{step, empty_database}
-use Rattle.hv_model.specs.Command.{refusal, statements, statement_named, is_named, after_entry, after_statement, after_command, settled, command_at, replay_from, database_after, entry_at}
+use Rattle.hv_model.specs.Command.{refusal, statements, statement_named, is_named, after_entry, command_at, database_after, entry_at}
 use Rattle.hv_model.specs.Legal.{number_of, is_done, Names, Accepted, Answered, FollowsNumber}
-use Rattle.hv_model.specs.OneSession.{IsOneSession, Commits, Stays, Settles, HasReply, HasEntry, LegalSoFar, Kept}
-use Rattle.hv_model.proofs.Places.{IsOld, IsLast, slice_get-more, slice_get-kept, slice_get-last}
+use Rattle.hv_model.specs.OneSession.{IsOneSession, Commits, Stays, Settles, LegalSoFar, Kept}
+use Rattle.hv_model.proofs.Places.{slice_get-more, slice_get-kept, slice_get-last}
 
 -- a name is the same as itself
 pub same_name-refl : (name : List ℕ) → same_name name name ≡ true

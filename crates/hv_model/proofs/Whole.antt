@@ -1,25 +1,21 @@
 -- When the last statement is answered, what held so far is a legal outcome.
-use Rattle.std.proofs.Common.{◌≡◌, ◌⊎◌, ℕ, zero, suc, ◌+◌, ◌-◌, ◌<◌, ◌≤◌, List, [], ◌∷◌, ◌++◌, length, take, Option, Some, None, refl, ap, sym, ◌∙◌, subst, arith, count_by, Bool, true, false, cond, fold, add-one, IsSome, map, rules}
-use Rattle.std.specs.Prelude.{codes, position}
-use Rattle.std.specs.List.{slice_get, flat_map}
-use Rattle.std.proofs.lemmas.Option.{slice_get_within, slice_get_cases}
+use Rattle.std.proofs.Common.{◌≡◌, ℕ, zero, suc, ◌+◌, ◌-◌, ◌<◌, ◌≤◌, List, [], ◌∷◌, length, Option, Some, refl, ap, sym, ◌∙◌, arith, Bool, cond, fold, IsSome, rules}
+use Rattle.std.specs.Prelude.{codes}
+use Rattle.std.specs.List.{slice_get}
+use Rattle.std.proofs.lemmas.Option.{slice_get_within}
 use Rattle.std.proofs.lemmas.List.{append-nil}
 use Rattle.hv_row.specs.Schema.{same_name}
 use Rattle.hv_model.specs.declared.script.Statement.{Statement}
 use Rattle.hv_model.specs.declared.script.Script.{Script}
 use Rattle.hv_model.specs.declared.catalogue.Database.{Database}
-use Rattle.hv_model.specs.declared.catalogue.Detail.{Detail}
 use Rattle.hv_model.specs.declared.catalogue.Entry.{Entry}
-use Rattle.hv_model.specs.declared.query.Cell.{Cell}
 use Rattle.hv_model.specs.declared.reply.Reply.{Reply}
-use Rattle.hv_model.specs.declared.reply.Reply.TheVariants.{Done, Rows, Refused, Failed}
-use Rattle.hv_model.specs.declared.reply.Refusal.{Refusal}
+use Rattle.hv_model.specs.declared.reply.Reply.TheVariants.{Done, Rows, Refused}
 use Rattle.hv_model.specs.declared.reply.Failure.{Failure}
 use Rattle.hv_model.specs.declared.reply.Failure.TheVariants.{Memory}
-use Rattle.hv_model.specs.Command.{statements}
-use Rattle.hv_model.specs.Legal.{number_of, is_done, is_done_option, session_place, reply_to, done_before, Stands, Names, count_of_session, EachOnce, LegalUpTo, Legal}
+use Rattle.hv_model.specs.Legal.{number_of, is_done, is_done_option, reply_to, done_before, Stands, Legal}
 use Rattle.hv_model.specs.OneSession.{IsOneSession, HasReply, HasEntry, LegalSoFar, Kept}
-use Rattle.hv_model.proofs.SoFar.{statements_one, same_name-refl}
+use Rattle.hv_model.proofs.SoFar.{statements_one}
 
 -- a statement of the script stands at a place of its one phase
 pub record IsPlaced (xs : List Statement) (x : Statement) : Type 0 where

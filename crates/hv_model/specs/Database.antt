@@ -1,10 +1,9 @@
 -- Databases, and what a command does to one. This project's own.
-use Rattle.std.specs.Prelude.{◌≡◌, ℕ, ◌+◌, ◌<◌, Bool, nat_le, List, [], ◌∷◌, ◌++◌, length, Option, Some, None, Result, Ok, Err, is_some, position, slice_get, slice_set, if◌then◌else◌}
+use Rattle.std.specs.Prelude.{ℕ, ◌+◌, nat_le, List, [], ◌∷◌, ◌++◌, length, Option, Some, None, Result, Ok, Err, is_some, position, slice_get, slice_set, if◌then◌else◌}
 use Rattle.std.specs.List.{flat_map}
 use Rattle.hv_row.specs.declared.value.Value.{Value}
 use Rattle.hv_row.specs.declared.schema.Column.{Column}
 use Rattle.hv_row.specs.Schema.{same_name}
-use Rattle.hv_model.specs.declared.catalogue.Chunk.{Chunk}
 use Rattle.hv_model.specs.declared.catalogue.Table.{Table}
 use Rattle.hv_model.specs.declared.catalogue.Database.{Database}
 use Rattle.hv_model.specs.declared.catalogue.Command.{Command}

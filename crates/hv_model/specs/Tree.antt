@@ -1,5 +1,5 @@
 -- The tree of a statement's text, as far as statements are built. This project's own, after ISO/IEC 9075, table definition and query specification.
-use Rattle.std.specs.Prelude.{ℕ, ◌+◌, Bool, true, false, ◌&&◌, List, [], ◌∷◌, Option, Some, None, codes, min, if◌then◌else◌}
+use Rattle.std.specs.Prelude.{ℕ, false, ◌&&◌, List, [], ◌∷◌, Option, Some, None, codes, min, if◌then◌else◌}
 use Rattle.std.specs.Option.{option_map}
 use Rattle.std.specs.Str.Parse.{digits_value}
 use Rattle.hv_row.specs.declared.value.ColType.{ColType}

@@ -1,0 +1,7 @@
+mod Always
+mod Behind
+mod LineCount
+mod Once
+mod Parts
+mod Source
+mod TextEnd

@@ -1,0 +1,134 @@
+-- Reading a source to its end, and what is known of a script that was read.
+use Rattle.std.proofs.Common.{◌≡◌, ℕ, zero, suc, ◌+◌, ◌<◌, ◌≤◌, List, [], ◌∷◌, ◌++◌, length, take, drop, Option, Some, None, IfSome, Result, Ok, Err, IfErr, codes, refl, sym, ◌∙◌, ap, subst, arith, append_assoc, length-append}
+use Rattle.std.specs.List.{slice_get}
+use Rattle.std.specs.Result.{IsErrAnd}
+use Rattle.std.proofs.lemmas.List.{append-nil, take-append-drop}
+use Rattle.hv_io.specs.Bytes.{Consumes, Given, Gives}
+use Rattle.hv_model.specs.Script.{most_bytes, Statements, Takes, TakesLines, data_behind, IsScript, IsFault, IsUnended, IsShortImport, lines_wanted}
+use Rattle.hv_model.specs.Tree.{tree_of}
+use Rattle.hv_model.specs.declared.script.Statement.{Statement}
+use Rattle.hv_model.specs.declared.script.Script.{Script}
+use Rattle.hv_model.specs.declared.script.FaultName.{FaultName}
+use Rattle.hv_model.specs.declared.script.FaultName.TheVariants.{TooLong, Unended, ShortImport}
+use Rattle.hv_script.specs.declared.fault.BytesFault.{BytesFault}
+use Rattle.hv_script.specs.declared.fault.BytesFault.TheVariants.{Found, Memory}
+use Rattle.hv_script.specs.declared.fault.ReadScriptFault.{ReadScriptFault}
+use Rattle.hv_script.specs.Fault.{IsFaultOf, IfFound, as_read}
+use Rattle.hv_script.specs.Reading.{IsRead}
+use Rattle.hv_script.specs.Script.{HasOneSession}
+use Rattle.hv_script.proofs.Behind.{length_data, length_after}
+
+-- nothing was read yet
+pub read_none : (before : Option (List ℕ)) → Consumes before before []
+read_none None = tt
+read_none (Some bytes) = record { rest = bytes; whole = refl; left = refl }
+
+-- one more piece was read
+pub read_more : (before now after : Option (List ℕ)) (all piece : List ℕ) (n : ℕ) → Consumes before now all → Gives now after n piece → Consumes before after (all ++ take n piece)
+read_more None now after all piece n r g = tt
+read_more (Some bytes) now after all piece n r g =
+    let given : Given r.rest after n piece = rw r.left at g in
+    record {
+      rest = drop n r.rest;
+      whole = r.whole ∙ rw (given.front, append_assoc, take-append-drop) refl;
+      left = given.rest;
+    }
+
+-- the source has no more
+read_ended : (before now : Option (List ℕ)) (all : List ℕ) → Consumes before now all → IfSome now (λ bytes. bytes ≡ []) → IfSome before (λ bytes. IsRead bytes all)
+read_ended None now all r e = tt
+read_ended (Some bytes) now all r e = record { rest = r.rest; whole = r.whole; ended = λ _. rw r.left at e }
+
+pub read_last : (before now : Option (List ℕ)) (all longer piece : List ℕ) → Consumes before now all → IfSome now (λ bytes. bytes ≡ [])
+    → longer ≡ all ++ take 0 piece → IfSome before (λ bytes. IsRead bytes longer)
+read_last before now all longer piece r e l = rw (l, append-nil) (read_ended before now all r e)
+
+-- more than a script has was read
+pub read_long : (before now : Option (List ℕ)) (all : List ℕ) → Consumes before now all → most_bytes < length all → IfSome before (λ bytes. IsRead bytes all)
+read_long None now all r h = tt
+read_long (Some bytes) now all r h = record { rest = r.rest; whole = r.whole; ended = λ short. absurd (omega arith) }
+
+-- where no more than a script has was read, all was read
+all_read : (bytes all : List ℕ) → IsRead bytes all → length all ≤ most_bytes → all ≡ bytes
+all_read bytes all r h = sym (r.whole ∙ rw (r.ended h) (append-nil all))
+
+-- the script of what was read
+pub script_read : (before : Option (List ℕ)) (all : List ℕ) (s : Script) → IfSome before (λ bytes. IsRead bytes all) → IsScript all s → IfSome before (λ bytes. IsScript bytes s)
+script_read None all s r i = tt
+script_read (Some bytes) all s r i = subst (λ xs. IsScript xs s) (all_read bytes all r i.short) i
+
+-- the fault of what was read
+fault_all : (bytes all : List ℕ) (name : FaultName) (byte : ℕ) → IsRead bytes all → IsFault all name byte → IsFault bytes name byte
+fault_all bytes all TooLong byte r f =
+    let n : length bytes ≡ length all + length r.rest = ap length r.whole ∙ length-append all r.rest in
+    let long : most_bytes < length all = f.0 in
+    (omega arith, f.1)
+fault_all bytes all Unended byte r f = subst (λ xs. IsUnended xs byte) (all_read bytes all r f.short) f
+fault_all bytes all ShortImport byte r f = subst (λ xs. IsShortImport xs byte) (all_read bytes all r f.short) f
+
+if_fault : (before : Option (List ℕ)) (all : List ℕ) (name : FaultName) (byte : ℕ) → IfSome before (λ bytes. IsRead bytes all) → IsFault all name byte → IfSome before (λ bytes. IsFault bytes name byte)
+if_fault None all name byte r f = tt
+if_fault (Some bytes) all name byte r f = fault_all bytes all name byte r f
+
+pub fault_read : (before : Option (List ℕ)) (all : List ℕ) (fault : BytesFault) → IfSome before (λ bytes. IsRead bytes all) → IsFaultOf all fault
+    → IfFound (as_read fault) (λ found. IfSome before (λ bytes. IsFault bytes found.name found.byte))
+fault_read before all (Found found) r f = if_fault before all found.name found.byte r f
+fault_read before all Memory r f = tt
+
+-- each statement takes a byte
+takes_one : (bytes after : List ℕ) (x : Statement) → Takes bytes x after → length after + 1 ≤ length bytes
+takes_one bytes after x t =
+    let n : length bytes ≡ length t.blanks + (length x.text + (1 + length t.behind)) = ap length t.is ∙ length-append t.blanks _ ∙ ap (λ k. length t.blanks + k) (length-append x.text _) ∙ omega arith in
+    omega (arith, length_after (lines_wanted (tree_of x.text)) t.behind x.lines after t.data_lines)
+
+statements_short : (bytes : List ℕ) (k : ℕ) (xs : List Statement) (rest : List ℕ) → Statements bytes k xs rest → length xs ≤ length bytes
+statements_short bytes k [] rest s = omega arith
+statements_short bytes k (x ∷ xs) rest s = omega (arith, takes_one bytes s.2.0 x s.2.1, statements_short s.2.0 (k + 1) xs rest s.2.2)
+
+-- each statement has its number
+statement_at : (bytes : List ℕ) (k : ℕ) (xs : List Statement) (rest : List ℕ) → Statements bytes k xs rest → (i : ℕ) (x : Statement) → slice_get xs i ≡ Some x → (x.session ≡ codes "main") × (x.number ≡ i + k)
+statement_at bytes k [] rest s i x e = cc
+statement_at bytes k (y ∷ ys) rest s zero x e =
+    let same : y ≡ x = cc in subst (λ z. (z.session ≡ codes "main") × (z.number ≡ 0 + k)) same (s.0, s.1 ∙ omega arith)
+statement_at bytes k (y ∷ ys) rest s (suc i) x e =
+    let q = statement_at s.2.0 (k + 1) ys rest s.2.2 i x e in (q.0, q.1 ∙ omega arith)
+
+-- a statement's data is no longer than what it stands in
+lines_within : (wanted : ℕ) (behind lines after : List ℕ) → TakesLines wanted behind lines after → length lines ≤ length behind
+lines_within zero behind lines after t = let n : length lines ≡ 0 = ap length (t.none refl).0 in omega arith
+lines_within (suc w) behind lines after t =
+    let n : length (data_behind behind) ≡ length lines + length after = ap length (t.some (omega arith)) ∙ length-append lines after in
+    omega (arith, length_data behind)
+
+lines_short : (bytes after : List ℕ) (x : Statement) → Takes bytes x after → length x.lines ≤ length bytes
+lines_short bytes after x t =
+    let n : length bytes ≡ length t.blanks + (length x.text + (1 + length t.behind)) = ap length t.is ∙ length-append t.blanks _ ∙ ap (λ k. length t.blanks + k) (length-append x.text _) ∙ omega arith in
+    omega (arith, lines_within (lines_wanted (tree_of x.text)) t.behind x.lines after t.data_lines)
+
+each_short : (bytes : List ℕ) (k : ℕ) (xs : List Statement) (rest : List ℕ) → Statements bytes k xs rest → (i : ℕ) (x : Statement) → slice_get xs i ≡ Some x → length x.lines ≤ length bytes
+each_short bytes k [] rest s i x e = absurd cc
+each_short bytes k (y ∷ ys) rest s zero x e =
+    let same : y ≡ x = cc in subst (λ z. length z.lines ≤ length bytes) same (lines_short bytes s.2.0 y s.2.1)
+each_short bytes k (y ∷ ys) rest s (suc i) x e =
+    let later : length x.lines ≤ length s.2.0 = each_short s.2.0 (k + 1) ys rest s.2.2 i x e in
+    omega (arith, takes_one bytes s.2.0 y s.2.1)
+
+pub one_session : (bytes : List ℕ) (s : Script) → IsScript bytes s → HasOneSession s
+one_session bytes s i =
+    let short : length bytes ≤ most_bytes = i.short in record {
+      statements = i.statements;
+      one = record {
+        sessions = i.sessions;
+        phases = i.phases;
+        of_main = λ at x e. (statement_at bytes 1 i.statements i.rest i.read at x e).0;
+        numbers = λ at x e. (statement_at bytes 1 i.statements i.rest i.read at x e).1;
+      };
+      few = omega (arith, statements_short bytes 1 i.statements i.rest i.read);
+      short = λ at x e. (let n : length x.lines ≤ length bytes = each_short bytes 1 i.statements i.rest i.read at x e in omega arith);
+    }
+
+-- the fault that is told of what was read
+pub fault_of : (result : Result Script ReadScriptFault) (before : Option (List ℕ)) (all : List ℕ) (fault : BytesFault) → IsErrAnd result (λ e. e ≡ as_read fault)
+    → IfSome before (λ bytes. IsRead bytes all) → IsFaultOf all fault → IfErr result (λ e. IfFound e (λ found. IfSome before (λ bytes. IsFault bytes found.name found.byte)))
+fault_of (Ok s) before all fault e r f = tt
+fault_of (Err x) before all fault e r f = let same : x ≡ as_read fault = e in rw same (fault_read before all fault r f)

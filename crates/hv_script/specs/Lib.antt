@@ -1,0 +1,5 @@
+pub mod Fault
+pub mod Next
+pub mod OneReading
+pub mod Reading
+pub mod Script

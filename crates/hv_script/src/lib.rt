@@ -1,0 +1,20 @@
+//! Reads the words of the command line, and a script from a source.
+//! A script that is answered is the one that its bytes are, and a fault is told where it stands.
+#![tactic(auto)]
+
+mod fault;
+mod law;
+mod lines;
+mod reading;
+mod script;
+mod statement;
+#[cfg(test)]
+mod tests;
+mod text;
+mod words;
+
+pub use fault::{BytesFault, ReadScriptFault};
+pub use law::one_reading;
+pub use reading::{PIECE_BYTES, read_script};
+pub use script::{MOST_BYTES, read_statements};
+pub use words::read_words;

@@ -1,0 +1,88 @@
+// The statements of a script.
+ghost use Rattle.std.specs.Prelude.{◌≡◌, ◌+◌, ◌≤◌, [], ◌∷◌, codes, length, IfOk, IfErr};
+ghost use Rattle.hv_model.specs.Script.{IsScript};
+ghost use Rattle.hv_script.specs.Fault.{IsFaultOf, TellsAt};
+
+use crate::fault::BytesFault;
+use crate::statement::{Next, find_next};
+use hv_model::{FaultName, Phase, Script, ScriptFault, Statement};
+use hv_row::{Bytes, Listed};
+use std::alloc::{AllocError, Global};
+
+/// The most bytes of a script.
+pub const MOST_BYTES: usize = 67_108_864;
+
+/// The script that the bytes are. `Err` is their first fault, told at a byte counted from 0, or `Memory` for want of memory at any point.
+pub fn read_statements(alloc: Global, bytes: &[u8]) -> Result<Script, BytesFault>
+    ensures script { IfOk result (λ script. IsScript bytes.now script) }
+    ensures fault { IfErr result (λ fault. IsFaultOf bytes.now fault) }
+{
+    if bytes.len() > MOST_BYTES {
+        return Err(BytesFault::Found(ScriptFault {
+            name: FaultName::TooLong,
+            byte: MOST_BYTES as u32,
+        }));
+    }
+    let mut statements: Phase = Listed::new(alloc);
+    let mut number = 1;
+    let mut rest = bytes;
+    loop {
+        match find_next(rest) {
+            Next::End => return Ok(one_phase(alloc, statements)?),
+            Next::Unended(text) => return Err(fault_at(FaultName::Unended, bytes, text)),
+            Next::Short(text) => return Err(fault_at(FaultName::ShortImport, bytes, text)),
+            Next::Found { text, lines, after } => {
+                statements.push(main_statement(alloc, number, text, lines)?)?;
+                number += 1;
+                rest = after;
+            }
+        }
+    }
+}
+
+// A fault at the first byte of the rest.
+fn fault_at(name: FaultName, bytes: &[u8], rest: &[u8]) -> BytesFault
+    requires short { length bytes.now ≤ 67108864 }
+    requires within { length rest.now ≤ length bytes.now }
+    ensures { TellsAt name bytes.now rest.now result }
+{
+    BytesFault::Found(ScriptFault {
+        name,
+        byte: (bytes.len() - rest.len()) as u32,
+    })
+}
+
+// A statement of the session `main`.
+fn main_statement(
+    alloc: Global,
+    number: u32,
+    text: &[u8],
+    lines: &[u8],
+) -> Result<Statement, AllocError>
+    ensures { IfOk result (λ x. x ≡ record { session = codes "main"; number = number; text = text.now; lines = lines.now }) }
+{
+    Ok(Statement {
+        session: owned(alloc, b"main")?,
+        number,
+        text: owned(alloc, text)?,
+        lines: owned(alloc, lines)?,
+    })
+}
+
+// The script of one session and one phase.
+fn one_phase(alloc: Global, statements: Phase) -> Result<Script, AllocError>
+    ensures { IfOk result (λ script. script ≡ record { sessions = codes "main" ∷ []; phases = statements ∷ [] }) }
+{
+    let mut sessions = Listed::new(alloc);
+    sessions.push(owned(alloc, b"main")?)?;
+    let mut phases = Listed::new(alloc);
+    phases.push(statements)?;
+    Ok(Script { sessions, phases })
+}
+
+// The bytes, in memory of their own.
+fn owned(alloc: Global, bytes: &[u8]) -> Result<Bytes, AllocError>
+    ensures { IfOk result (λ copy. copy ≡ bytes.now) }
+{
+    Ok(Listed::from_vec(Vec::from_slice(alloc, bytes)?))
+}

@@ -1,0 +1,340 @@
+-- What an import's fields, rows and lines spell, byte by byte.
+use Rattle.std.proofs.Common.{IfOk, IfSome, ◌≡◌, ℕ, zero, suc, ◌+◌, ◌<◌, ◌≤◌, ◌^◌, Bool, true, false, not, cond, ◌&&◌, eqb, ltb, leb, List, [], ◌∷◌, ◌++◌, length, drop, get_or, Option, Some, None, ℤ, pos, neg_ℤ, refl, sym, ◌∙◌, ap, subst, arith, rules, append_assoc, drop-cons, add-one, leb-true, ltb-true, eqb-true, le-leb, lt-ltb, lit<, is_some, MatchOption, Bor, length-append, Result, Ok, Err, SomeIff}
+use Rattle.std.specs.Prelude.{FitsSigned, IsUtf8}
+use Rattle.std.specs.Int.{w64}
+use Rattle.std.specs.List.{list_all, onto_first, All}
+use Rattle.std.specs.Option.{option_map, unwrap_or}
+use Rattle.std.specs.Result.{result_ok}
+use Rattle.std.specs.Str.{IsAscii}
+use Rattle.std.specs.Str.Parse.{IsNumeral, digits_value, without_leading_sign, signed_digits_value, starts_with_minus, ParsesSigned}
+use Rattle.std.proofs.lemmas.Str.{IsUtf8-from_ascii}
+use Rattle.std.proofs.lemmas.Str.Parse.{IsNumeralModel, numerals_by_value}
+use Rattle.std.proofs.lemmas.List.{drop_all}
+use Rattle.std.proofs.lemmas.List.Folds.{list_all-append}
+use Rattle.std.proofs.lemmas.List.Elements.{All-append, All-cons, All-nil}
+use Rattle.hv_row.specs.declared.value.Value.{Value}
+use Rattle.hv_row.specs.declared.value.Value.TheVariants.{Int, Text}
+use Rattle.hv_row.specs.declared.value.ColType.{ColType}
+use Rattle.hv_row.specs.declared.value.ColType.TheVariants as kind
+use Rattle.hv_row.specs.declared.schema.Column.{Column}
+use Rattle.hv_row.specs.Value.{FitsType}
+use Rattle.hv_row.specs.Row.{RowFits}
+use Rattle.hv_model.specs.Token.{is_digit, is_number}
+use Rattle.hv_model.specs.Import.{is_plain_byte, amount_fits, is_integer, field_value, value_before, values_of, fields_of, row_of, row_before, rows_of_lines}
+use Rattle.hv_model.specs.Script.{line_list}
+
+-- Tests that are both true.
+both : {a b : Bool} → a ≡ true → b ≡ true → (a && b) ≡ true
+both p q = rw p q
+
+first_of : (a b : Bool) → (a && b) ≡ true → a ≡ true
+first_of true b e = refl
+first_of false b e = e
+
+second_of : (a b : Bool) → (a && b) ≡ true → b ≡ true
+second_of true b e = e
+second_of false b e = absurd (cc)
+
+not_true : (b : Bool) → not b ≡ true → b ≡ false
+not_true true e = absurd (cc)
+not_true false e = refl
+
+-- Numbers: what `parse` reads is what is an integer.
+numerals : IsNumeralModel (λ ds. list_all is_digit ds ≡ true) (digits_value 10)
+numerals = numerals_by_value _ (record {
+  empty = refl;
+  parts = λ c cs e. search (rules, leb-true, first_of, second_of);
+  more = λ c cs r e. search (rules, le-leb, both);
+})
+
+amount_to : (minus : Bool) (n : ℕ) → amount_fits minus n ≡ true → FitsSigned w64 (cond minus (neg_ℤ (pos n)) (pos n))
+amount_to true zero e = record { sfits = lit< tt }
+amount_to true (suc n) e = record { sfits = leb-true (suc n) (2 ^ 63) e }
+amount_to false n e = record { sfits = ltb-true n (2 ^ 63) e }
+
+amount_from : (minus : Bool) (n : ℕ) → FitsSigned w64 (cond minus (neg_ℤ (pos n)) (pos n)) → amount_fits minus n ≡ true
+amount_from true zero f = refl
+amount_from true (suc n) f = le-leb (suc n) (2 ^ 63) f.sfits
+amount_from false n f = lt-ltb n (2 ^ 63) f.sfits
+
+pub integer_reads : (field : List ℕ) → is_integer field ≡ true → IsNumeral 10 (without_leading_sign field) × FitsSigned w64 (signed_digits_value 10 field)
+integer_reads field e =
+    let ds = without_leading_sign field in
+    let number : is_number ds ≡ true = first_of _ _ e in
+    ((leb-true 1 (length ds) (first_of _ _ number), numerals.to ds (second_of _ _ number)), amount_to (starts_with_minus field) (digits_value 10 ds) (second_of _ _ e))
+
+pub read_is_integer : (field : List ℕ) → IsNumeral 10 (without_leading_sign field) → FitsSigned w64 (signed_digits_value 10 field) → is_integer field ≡ true
+read_is_integer field n f =
+    let ds = without_leading_sign field in
+    both (both (le-leb 1 (length ds) n.0) (numerals.from ds n.1)) (amount_from (starts_with_minus field) (digits_value 10 ds) f)
+
+-- Bytes below 128 are a text.
+abbrev small : ℕ → Bool
+small b = ltb b 128
+
+ascii : (bs : List ℕ) → list_all small bs ≡ true → IsAscii bs
+ascii [] e i = lit< tt
+ascii (b ∷ bs) e zero = ltb-true b 128 (first_of _ _ e)
+ascii (b ∷ bs) e (suc i) = ascii bs (second_of _ _ e) i
+
+small_text : (bs : List ℕ) → list_all small bs ≡ true → IsUtf8 bs
+small_text bs e = IsUtf8-from_ascii bs (ascii bs e)
+
+small_digits : (ds : List ℕ) → list_all is_digit ds ≡ true → list_all small ds ≡ true
+small_digits [] e = refl
+small_digits (d ∷ ds) e =
+    both (lt-ltb d 128 (let h : d ≤ 57 = leb-true d 57 (second_of (leb 48 d) (leb d 57) (first_of _ _ e)) in omega arith)) (small_digits ds (second_of _ _ e))
+
+small_signed : (field : List ℕ) → list_all is_digit (without_leading_sign field) ≡ true → list_all small field ≡ true
+small_signed [] e = refl
+small_signed (b ∷ bs) e =
+    elim (eqb b 45) as (λ v. eqb b 45 ≡ v → list_all is_digit (cond v bs (drop (cond (eqb b 43) 1 0) (b ∷ bs))) ≡ true → list_all small (b ∷ bs) ≡ true) [
+      | true ↦ λ is h. both (lt-ltb b 128 (omega (arith, eqb-true b 45 is))) (small_digits bs h)
+      | false ↦ λ _. elim (eqb b 43) as (λ v. eqb b 43 ≡ v → list_all is_digit (drop (cond v 1 0) (b ∷ bs)) ≡ true → list_all small (b ∷ bs) ≡ true) [
+        | true ↦ λ is h. both (lt-ltb b 128 (omega (arith, eqb-true b 43 is))) (small_digits bs h)
+        | false ↦ λ _ h. small_digits (b ∷ bs) h
+      ] refl
+    ] refl e
+
+pub integer_text : (field : List ℕ) → is_integer field ≡ true → IsUtf8 field
+integer_text field e = small_text field (small_signed field (second_of _ _ (first_of _ _ e)))
+
+pub parsed : {E : Type 0} (field : List ℕ) (r : Result ℤ E) → ParsesSigned w64 10 field r → SomeIff (result_ok r) (is_integer field ≡ true) (signed_digits_value 10 field)
+parsed field (Ok x) p = (read_is_integer field p.0.0 p.0.1, p.1)
+parsed field (Err e) p = λ is. p (integer_reads field is)
+
+-- Cuts at a mark: no byte before it is the mark.
+head_other : (mark b : ℕ) (bs : List ℕ) → list_all (λ b. not (eqb b mark)) (b ∷ bs) ≡ true → eqb b mark ≡ false
+head_other mark b bs e = not_true (eqb b mark) (first_of (not (eqb b mark)) (list_all (λ b. not (eqb b mark)) bs) e)
+
+tail_other : (mark b : ℕ) (bs : List ℕ) → list_all (λ b. not (eqb b mark)) (b ∷ bs) ≡ true → list_all (λ b. not (eqb b mark)) bs ≡ true
+tail_other mark b bs e = second_of (not (eqb b mark)) (list_all (λ b. not (eqb b mark)) bs) e
+
+-- Fields: what stands before the first comma, then those of what is behind it.
+pub fields_cut : (front more : List ℕ) → list_all (λ b. not (eqb b 44)) front ≡ true → fields_of (front ++ 44 ∷ more) ≡ front ∷ fields_of more
+fields_cut [] more e = refl
+fields_cut (b ∷ bs) more e = rw (head_other 44 b bs e) (rw (fields_cut bs more (tail_other 44 b bs e)) refl)
+
+pub fields_whole : (front : List ℕ) → list_all (λ b. not (eqb b 44)) front ≡ true → fields_of front ≡ front ∷ []
+fields_whole [] e = refl
+fields_whole (b ∷ bs) e = rw (head_other 44 b bs e) (rw (fields_whole bs (tail_other 44 b bs e)) refl)
+
+-- the fields behind a comma; none where there is no comma
+abbrev pub fields_left : Option (List ℕ) → List (List ℕ)
+fields_left None = []
+fields_left (Some more) = fields_of more
+
+-- Lines, likewise.
+pub lines_cut : (front more : List ℕ) → list_all (λ b. not (eqb b 10)) front ≡ true → line_list (front ++ 10 ∷ more) ≡ front ∷ line_list more
+lines_cut [] more e = refl
+lines_cut (b ∷ bs) more e = rw (head_other 10 b bs e) (rw (lines_cut bs more (tail_other 10 b bs e)) refl)
+
+pub lines_whole : (b : ℕ) (bs : List ℕ) → list_all (λ b. not (eqb b 10)) (b ∷ bs) ≡ true → line_list (b ∷ bs) ≡ (b ∷ bs) ∷ []
+lines_whole b [] e = rw (head_other 10 b [] e) refl
+lines_whole b (c ∷ bs) e = rw (head_other 10 b (c ∷ bs) e) (rw (lines_whole c bs (tail_other 10 b (c ∷ bs) e)) refl)
+
+-- A list that may be missing, behind one that is there.
+abbrev pub behind : {X : Type 0} → List X → Option (List X) → Option (List X)
+behind xs None = None
+behind xs (Some ys) = Some (xs ++ ys)
+
+pub behind_none : {X : Type 0} (more : Option (List X)) → behind [] more ≡ more
+behind_none None = refl
+behind_none (Some ys) = refl
+
+pub value_pushed : (vs : List Value) (v : Value) (more : Option (List Value)) → behind vs (value_before (Some v) more) ≡ behind (vs ++ v ∷ []) more
+value_pushed vs v None = refl
+value_pushed vs v (Some ws) = ap Some (sym (append_assoc vs (v ∷ []) ws))
+
+pub row_pushed : (rows : List (List Value)) (row : List Value) (more : Option (List (List Value))) → behind rows (row_before (Some row) more) ≡ behind (rows ++ row ∷ []) more
+row_pushed rows row None = refl
+row_pushed rows row (Some others) = ap Some (sym (append_assoc rows (row ∷ []) others))
+
+-- Rows that are read fit their columns: plain bytes are a text.
+small_plain : (bs : List ℕ) → list_all is_plain_byte bs ≡ true → list_all small bs ≡ true
+small_plain [] e = refl
+small_plain (b ∷ bs) e = both (first_of _ _ (first_of _ _ (first_of _ _ e))) (small_plain bs (second_of _ _ e))
+
+value_fits : (k : ColType) (field : List ℕ) (v : Value) → list_all is_plain_byte field ≡ true → field_value k field ≡ Some v → FitsType k v
+value_fits kind.Int field v plain e =
+    elim (is_integer field) as (λ t. is_integer field ≡ t → cond t (Some (Int (signed_digits_value 10 field))) None ≡ Some v → FitsType kind.Int v) [
+      | true ↦ λ is h. let same : Int (signed_digits_value 10 field) ≡ v = cc in subst (FitsType kind.Int) same (integer_reads field is).1
+      | false ↦ λ _ h. absurd (cc)
+    ] refl e
+value_fits kind.Text field v plain e =
+    elim (leb (length field) 255) as (λ t. leb (length field) 255 ≡ t → cond t (Some (Text field)) None ≡ Some v → FitsType kind.Text v) [
+      | true ↦ λ is h. let same : Text field ≡ v = cc in subst (FitsType kind.Text) same (record { short = leb-true (length field) 255 is; utf8 = small_text field (small_plain field plain) })
+      | false ↦ λ _ h. absurd (cc)
+    ] refl e
+
+abbrev pub are_plain : List (List ℕ) → Bool
+are_plain fields = list_all (λ field. list_all is_plain_byte field) fields
+
+pub values_fit : (cs : List Column) (fields : List (List ℕ)) (vs : List Value) → are_plain fields ≡ true → values_of cs fields ≡ Some vs → RowFits cs vs
+values_fit [] [] vs plain e = let same : [] ≡ vs = cc in subst (RowFits []) same tt
+values_fit [] (_ ∷ _) vs plain e = absurd (cc)
+values_fit (_ ∷ _) [] vs plain e = absurd (cc)
+values_fit (c ∷ cs) (field ∷ fields) vs plain e =
+    elim (field_value c.kind field) as (λ o. field_value c.kind field ≡ o → value_before o (values_of cs fields) ≡ Some vs → RowFits (c ∷ cs) vs) [
+      | None ↦ λ _ h. absurd (cc)
+      | Some v ↦ λ is. elim (values_of cs fields) as (λ o. values_of cs fields ≡ o → value_before (Some v) o ≡ Some vs → RowFits (c ∷ cs) vs) [
+        | None ↦ λ _ h. absurd (cc)
+        | Some ws ↦ λ more h. let same : v ∷ ws ≡ vs = cc in
+            subst (RowFits (c ∷ cs)) same (value_fits c.kind field v (first_of _ _ plain) is, values_fit cs fields ws (second_of _ _ plain) more)
+      ] refl
+    ] refl e
+
+plain_onto : (b : ℕ) (fields : List (List ℕ)) → is_plain_byte b ≡ true → are_plain fields ≡ true → are_plain (onto_first b fields) ≡ true
+plain_onto b [] is e = both (both is refl) refl
+plain_onto b (field ∷ fields) is e = both (both is (first_of _ _ e)) (second_of _ _ e)
+
+pub plain_fields : (line : List ℕ) → list_all is_plain_byte line ≡ true → are_plain (fields_of line) ≡ true
+plain_fields [] e = refl
+plain_fields (b ∷ bs) e =
+    elim (eqb b 44) as (λ t. are_plain (cond t ([] ∷ fields_of bs) (onto_first b (fields_of bs))) ≡ true) [
+      | true ↦ plain_fields bs (second_of _ _ e)
+      | false ↦ plain_onto b (fields_of bs) (first_of _ _ e) (plain_fields bs (second_of _ _ e))
+    ]
+
+-- What a cut at a mark gives, in the words of its clauses.
+pub cut_fields : (text front : List ℕ) (more : Option (Bor (List ℕ))) → list_all (λ b. not (eqb b 44)) front ≡ true → MatchOption more (text ≡ front) (λ m. text ≡ front ++ (44 ∷ m.now)) → fields_of text ≡ front ∷ fields_left (option_map (λ m. m.now) more)
+cut_fields text front None other is = rw is (fields_whole front other)
+cut_fields text front (Some m) other is = rw is (fields_cut front m.now other)
+
+-- the bytes behind a line feed; none where there is no line feed
+abbrev pub behind_line : Option (Bor (List ℕ)) → List ℕ
+behind_line None = []
+behind_line (Some m) = m.now
+
+pub behind_line_is : (more : Option (Bor (List ℕ))) (none rest : Bor (List ℕ)) → none.now ≡ [] → rest ≡ unwrap_or more none → rest.now ≡ behind_line more
+behind_line_is None none rest empty is = ap (λ r. r.now) is ∙ empty
+behind_line_is (Some m) none rest empty is = ap (λ r. r.now) is
+
+pub cut_lines : (bytes front : List ℕ) (more : Option (Bor (List ℕ))) → 0 < length bytes → list_all (λ b. not (eqb b 10)) front ≡ true → MatchOption more (bytes ≡ front) (λ m. bytes ≡ front ++ (10 ∷ m.now)) → line_list bytes ≡ front ∷ line_list (behind_line more)
+cut_lines [] front None some other is = absurd (omega arith)
+cut_lines (b ∷ bs) front None some other is = subst (λ f. list_all (λ b. not (eqb b 10)) f ≡ true → line_list (b ∷ bs) ≡ f ∷ []) is (λ e. lines_whole b bs e) other
+cut_lines bytes front (Some m) some other is = rw is (lines_cut front m.now other)
+
+-- both sides of a cut of plain bytes are plain
+pub cut_plain : (mark : ℕ) (bytes front : List ℕ) (more : Option (Bor (List ℕ))) → list_all is_plain_byte bytes ≡ true → MatchOption more (bytes ≡ front) (λ m. bytes ≡ front ++ (mark ∷ m.now)) → (list_all is_plain_byte front ≡ true) × (list_all is_plain_byte (behind_line more) ≡ true)
+cut_plain mark bytes front None plain is = (rw (sym is) plain, refl)
+cut_plain mark bytes front (Some m) plain is =
+    let parts : (list_all is_plain_byte front && list_all is_plain_byte (mark ∷ m.now)) ≡ true = sym (list_all-append is_plain_byte front (mark ∷ m.now)) ∙ (rw (sym is) plain) in
+    (first_of _ _ parts, second_of _ _ (second_of _ _ parts))
+
+-- what is behind a line feed is shorter
+pub cut_shorter : (mark : ℕ) (bytes front : List ℕ) (more : Option (Bor (List ℕ))) → 0 < length bytes → MatchOption more (bytes ≡ front) (λ m. bytes ≡ front ++ (mark ∷ m.now)) → length (behind_line more) < length bytes
+cut_shorter mark bytes front None some is = some
+cut_shorter mark bytes front (Some m) some is = let e : length bytes ≡ length front + length (mark ∷ m.now) = ap length is ∙ length-append front (mark ∷ m.now) in omega arith
+
+-- Steps of the loop over the columns: a value more, a field that spells none, a field too few or too many.
+drop_here : {X : Type 0} (xs : List X) (i : ℕ) (x : X) → i < length xs → x ≡ get_or xs i x → drop i xs ≡ x ∷ drop (i + 1) xs
+drop_here xs i x within is = rw (add-one i) (drop-cons xs i x within ∙ ap (λ y. y ∷ drop (suc i) xs) (sym is))
+
+values_here : (columns : List Column) (i : ℕ) (c : Column) (vs : List Value) (rest : Option (Bor (List ℕ))) (text : Bor (List ℕ)) (front : List ℕ) (more : Option (Bor (List ℕ))) (whole : Option (List Value))
+    → i < length columns → c ≡ get_or columns i c → rest ≡ Some text → list_all (λ b. not (eqb b 44)) front ≡ true → MatchOption more (text.now ≡ front) (λ m. text.now ≡ front ++ (44 ∷ m.now))
+    → behind vs (values_of (drop i columns) (fields_left (option_map (λ r. r.now) rest))) ≡ whole
+    → behind vs (value_before (field_value c.kind front) (values_of (drop (i + 1) columns) (fields_left (option_map (λ m. m.now) more)))) ≡ whole
+values_here columns i c vs rest text front more whole within at rest_is other cut known =
+    let left : fields_left (option_map (λ r. r.now) rest) ≡ front ∷ fields_left (option_map (λ m. m.now) more) = rw rest_is (cut_fields text.now front more other cut) in
+    ap (λ cs. behind vs (values_of cs (front ∷ fields_left (option_map (λ m. m.now) more)))) (sym (drop_here columns i c within at))
+    ∙ ap (λ fs. behind vs (values_of (drop i columns) fs)) (sym left) ∙ known
+
+pub values_next : (columns : List Column) (i : ℕ) (c : Column) (vs : List Value) (rest : Option (Bor (List ℕ))) (text : Bor (List ℕ)) (front : List ℕ) (more : Option (Bor (List ℕ))) (whole : Option (List Value)) (v : Value) (pushed : List Value)
+    → i < length columns → c ≡ get_or columns i c → rest ≡ Some text → list_all (λ b. not (eqb b 44)) front ≡ true → MatchOption more (text.now ≡ front) (λ m. text.now ≡ front ++ (44 ∷ m.now))
+    → behind vs (values_of (drop i columns) (fields_left (option_map (λ r. r.now) rest))) ≡ whole
+    → Some v ≡ field_value c.kind front → pushed ≡ vs ++ v ∷ []
+    → behind pushed (values_of (drop (i + 1) columns) (fields_left (option_map (λ m. m.now) more))) ≡ whole
+values_next columns i c vs rest text front more whole v pushed within at rest_is other cut known spelt push =
+    let here = values_here columns i c vs rest text front more whole within at rest_is other cut known in
+    let others = values_of (drop (i + 1) columns) (fields_left (option_map (λ m. m.now) more)) in
+    rw push (sym (value_pushed vs v others) ∙ ap (λ o. behind vs (value_before o others)) spelt ∙ here)
+
+pub values_stop : (columns : List Column) (i : ℕ) (c : Column) (vs : List Value) (rest : Option (Bor (List ℕ))) (text : Bor (List ℕ)) (front : List ℕ) (more : Option (Bor (List ℕ))) (whole : Option (List Value))
+    → i < length columns → c ≡ get_or columns i c → rest ≡ Some text → list_all (λ b. not (eqb b 44)) front ≡ true → MatchOption more (text.now ≡ front) (λ m. text.now ≡ front ++ (44 ∷ m.now))
+    → behind vs (values_of (drop i columns) (fields_left (option_map (λ r. r.now) rest))) ≡ whole
+    → None ≡ field_value c.kind front → None ≡ whole
+values_stop columns i c vs rest text front more whole within at rest_is other cut known spelt =
+    let here = values_here columns i c vs rest text front more whole within at rest_is other cut known in
+    let others = values_of (drop (i + 1) columns) (fields_left (option_map (λ m. m.now) more)) in
+    ap (λ o. behind vs (value_before o others)) spelt ∙ here
+
+some_field : (text : List ℕ) → (field : List ℕ) × (fields : List (List ℕ)) × (fields_of text ≡ field ∷ fields)
+some_field [] = ([], [], refl)
+some_field (b ∷ bs) =
+    elim (eqb b 44) as (λ t. (field : List ℕ) × (fields : List (List ℕ)) × (cond t ([] ∷ fields_of bs) (onto_first b (fields_of bs)) ≡ field ∷ fields)) [
+      | true ↦ ([], fields_of bs, refl)
+      | false ↦ elim (fields_of bs) as (λ fs. (field : List ℕ) × (fields : List (List ℕ)) × (onto_first b fs ≡ field ∷ fields)) [
+        | [] ↦ (b ∷ [], [], refl)
+        | f ∷ fs ↦ (b ∷ f, fs, refl)
+      ]
+    ]
+
+pub values_end : (columns : List Column) (i : ℕ) (vs : List Value) (rest : Option (Bor (List ℕ))) (whole : Option (List Value))
+    → length columns ≤ i → is_some rest ≡ true → behind vs (values_of (drop i columns) (fields_left (option_map (λ r. r.now) rest))) ≡ whole → None ≡ whole
+values_end columns i vs None whole past some known = absurd (cc)
+values_end columns i vs (Some text) whole past some known =
+    let found = some_field text.now in
+    let none : values_of (drop i columns) (fields_of text.now) ≡ None = rw (drop_all i columns past) (rw found.2 refl) in
+    sym (ap (behind vs) none) ∙ known
+
+-- Steps of the loop over the lines.
+pub rows_here : (columns : List Column) (rows : List (List Value)) (rest front : List ℕ) (more : Option (Bor (List ℕ))) (whole : Option (List (List Value)))
+    → 0 < length rest → list_all (λ b. not (eqb b 10)) front ≡ true → MatchOption more (rest ≡ front) (λ m. rest ≡ front ++ (10 ∷ m.now))
+    → behind rows (rows_of_lines columns (line_list rest)) ≡ whole
+    → behind rows (row_before (row_of columns front) (rows_of_lines columns (line_list (behind_line more)))) ≡ whole
+rows_here columns rows rest front more whole some other cut known =
+    ap (λ ls. behind rows (rows_of_lines columns ls)) (sym (cut_lines rest front more some other cut)) ∙ known
+
+pub rows_stop : (columns : List Column) (rows : List (List Value)) (rest front : List ℕ) (more : Option (Bor (List ℕ))) (whole : Option (List (List Value)))
+    → 0 < length rest → list_all (λ b. not (eqb b 10)) front ≡ true → MatchOption more (rest ≡ front) (λ m. rest ≡ front ++ (10 ∷ m.now))
+    → behind rows (rows_of_lines columns (line_list rest)) ≡ whole
+    → None ≡ row_of columns front → None ≡ whole
+rows_stop columns rows rest front more whole some other cut known spelt =
+    ap (λ o. behind rows (row_before o (rows_of_lines columns (line_list (behind_line more))))) spelt ∙ rows_here columns rows rest front more whole some other cut known
+
+pub rows_next : (columns : List Column) (rows : List (List Value)) (rest front : List ℕ) (more : Option (Bor (List ℕ))) (whole : Option (List (List Value))) (row : List Value) (pushed : List (List Value))
+    → 0 < length rest → list_all (λ b. not (eqb b 10)) front ≡ true → MatchOption more (rest ≡ front) (λ m. rest ≡ front ++ (10 ∷ m.now))
+    → behind rows (rows_of_lines columns (line_list rest)) ≡ whole
+    → Some row ≡ row_of columns front → pushed ≡ rows ++ row ∷ []
+    → behind pushed (rows_of_lines columns (line_list (behind_line more))) ≡ whole
+rows_next columns rows rest front more whole row pushed some other cut known spelt push =
+    let others = rows_of_lines columns (line_list (behind_line more)) in
+    rw push (sym (row_pushed rows row others) ∙ ap (λ o. behind rows (row_before o others)) spelt ∙ rows_here columns rows rest front more whole some other cut known)
+
+pub all_pushed : (columns : List Column) (rows : List (List Value)) (row : List Value) (pushed : List (List Value)) → All (RowFits columns) rows → RowFits columns row → pushed ≡ rows ++ row ∷ [] → All (RowFits columns) pushed
+all_pushed columns rows row pushed all one push = rw push (All-append (RowFits columns) rows (row ∷ []) all (All-cons (RowFits columns) row [] one (All-nil (RowFits columns))))
+
+-- A row for each line.
+rows_length : (cs : List Column) (lines : List (List ℕ)) (rows : List (List Value)) → rows_of_lines cs lines ≡ Some rows → length rows ≡ length lines
+rows_length cs [] rows e = let same : [] ≡ rows = cc in subst (λ rs. length rs ≡ 0) same refl
+rows_length cs (line ∷ lines) rows e =
+    elim (row_of cs line) as (λ o. row_before o (rows_of_lines cs lines) ≡ Some rows → length rows ≡ length (line ∷ lines)) [
+      | None ↦ λ h. absurd (cc)
+      | Some row ↦ elim (rows_of_lines cs lines) as (λ o. rows_of_lines cs lines ≡ o → row_before (Some row) o ≡ Some rows → length rows ≡ length (line ∷ lines)) [
+        | None ↦ λ _ h. absurd (cc)
+        | Some others ↦ λ is h. let same : row ∷ others ≡ rows = cc in
+            let fewer : length others ≡ length lines = rows_length cs lines others is in subst (λ rs. length rs ≡ length (line ∷ lines)) same (omega arith)
+      ] refl
+    ] e
+
+option_count : (cs : List Column) (lines : List (List ℕ)) (o : Option (List (List Value))) → o ≡ rows_of_lines cs lines → IfSome o (λ found. length found ≡ length lines)
+option_count cs lines None e = tt
+option_count cs lines (Some rows) e = rows_length cs lines rows (sym e)
+
+pub rows_count : {E : Type 0} (cs : List Column) (lines : List (List ℕ)) (r : Result (Option (List (List Value))) E) → IfOk r (λ rows. rows ≡ rows_of_lines cs lines) → IfOk r (λ rows. IfSome rows (λ found. length found ≡ length lines))
+rows_count cs lines (Ok o) e = option_count cs lines o e
+rows_count cs lines (Err _) e = e
+
+-- there are at most as many lines as bytes
+lines_onto : (b : ℕ) (lines : List (List ℕ)) → length (onto_first b lines) ≤ length lines + 1
+lines_onto b [] = omega arith
+lines_onto b (line ∷ lines) = omega arith
+
+pub lines_fewer : (bytes : List ℕ) → length (line_list bytes) ≤ length bytes
+lines_fewer [] = omega arith
+lines_fewer (b ∷ bs) =
+    elim (eqb b 10) as (λ t. length (cond t ([] ∷ line_list bs) (onto_first b (line_list bs))) ≤ length (b ∷ bs)) [
+      | true ↦ omega (arith, lines_fewer bs)
+      | false ↦ omega (arith, lines_fewer bs, lines_onto b (line_list bs))
+    ]

@@ -1,0 +1,9 @@
+pub mod Answering
+pub mod Handing
+pub mod ImportLaws
+pub mod PrintedParts
+pub mod Quotes
+pub mod StoreLaws
+pub mod AnsweredSoFar
+pub mod Running
+pub mod FirstScript

@@ -1,0 +1,36 @@
+-- What answering one statement needs and keeps.
+use Rattle.std.specs.Prelude.{◌≡◌, ◌≤◌, ℕ, List, Option, Some, None, All, slice_get}
+use Rattle.hv_row.specs.declared.value.Value.{Value}
+use Rattle.hv_row.specs.Row.{RowFits}
+use Rattle.hv_model.specs.declared.script.Statement.{Statement}
+use Rattle.hv_model.specs.declared.catalogue.Table.{Table}
+use Rattle.hv_model.specs.declared.catalogue.Database.{Database}
+use Rattle.hv_model.specs.declared.catalogue.Entry.{Entry}
+use Rattle.hv_model.specs.declared.tree.Ast.TheVariants as tree
+use Rattle.hv_model.specs.declared.reply.Refusal.TheVariants.{Unbuilt}
+use Rattle.hv_model.specs.Tree.{tree_of}
+use Rattle.hv_model.specs.Import.{rows_of}
+use Rattle.hv_model.specs.Database.{table_number, import_refusal}
+use Rattle.hv_model.specs.Command.{refusal}
+
+-- nothing has changed
+pub record Keeps (before now : Database) (history longer : List Entry) : Type 0 where
+  pub same_database : now ≡ before
+  pub same_history : longer ≡ history
+
+-- the statement is an import whose table stands and takes a chunk, and whose data spells these rows under the table's schema
+pub record Imports (x : Statement) (name : List ℕ) (s : Database) (at : ℕ) (rows : List (List Value)) : Type 0 where
+  pub wanted : ℕ
+  pub table : Table
+  pub is : tree_of x.text ≡ Some (tree.Import name wanted)
+  pub few : wanted ≤ 1000000
+  pub number : table_number s name ≡ Some at
+  pub stands : slice_get s.tables at ≡ Some table
+  pub spelled : rows_of table.schema x.lines ≡ Some rows
+  pub fit : All (RowFits table.schema) rows
+  pub allowed : import_refusal table s ≡ None
+
+-- an import that isn't built is refused
+abbrev pub IsImportOf : Statement → List ℕ → Database → Option (ℕ × List (List Value)) → Type 0
+IsImportOf x name s None = (max : ℕ) → refusal x s max ≡ Some Unbuilt
+IsImportOf x name s (Some found) = Imports x name s found.0 found.1

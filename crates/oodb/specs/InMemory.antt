@@ -1,0 +1,20 @@
+-- What a run over memory gives.
+use Rattle.std.specs.Prelude.{◌≡◌, ℕ, List, [], ◌∷◌}
+use Rattle.hv_model.specs.declared.script.Script.{Script}
+use Rattle.hv_model.specs.declared.catalogue.Entry.{Entry}
+use Rattle.hv_model.specs.declared.reply.Reply.{Reply}
+use Rattle.hv_model.specs.Script.{IsScript}
+use Rattle.hv_model.specs.Legal.{Legal}
+use Rattle.hv_model.specs.Report.{report_text}
+use Rattle.oodb.specs.declared.status.Status.{Status}
+use Rattle.oodb.specs.Outcome.{status_of}
+
+-- these bytes are the report of one history and one list of replies, which are legal for the script of the bytes
+pub record Reports (bytes : List ℕ) (max : ℕ) (now : Status) (report : List ℕ) : Type 0 where
+  pub script : Script
+  pub history : List Entry
+  pub replies : List Reply
+  pub script_is : IsScript bytes script
+  pub legal : Legal script max history (replies ∷ [])
+  pub text : report ≡ report_text script history (replies ∷ [])
+  pub status : now ≡ status_of replies

@@ -1,0 +1,231 @@
+// The rows that the data of an import spells: one a line, its fields cut at commas, and nothing quoted.
+ghost use Rattle.std.specs.Prelude.{◌≡◌, ◌≤◌, ◌==◌, ◌++◌, ◌∷◌, not, true, length, All, IfOk, IfSome, MatchOption, SomeIff};
+ghost use Rattle.std.specs.List.{list_all};
+ghost use Rattle.std.specs.Str.Parse.{signed_digits_value};
+ghost use Rattle.hv_row.specs.Row.{RowFits};
+ghost use Rattle.hv_model.specs.Import.{is_plain_byte, is_integer, field_value, fields_of, values_of, row_of, rows_of_lines, rows_of};
+ghost use Rattle.hv_model.specs.Script.{line_list};
+
+use hv_row::{
+    Bytes, ColType, Column, MAX_ROW_BYTES, MAX_TEXT_BYTES, Row, Rows, Schema, Value, row_length,
+};
+use std::alloc::{AllocError, Global};
+
+/// The rows that an import's data spells under a schema, one a line; `None` where a line spells none.
+pub fn rows_of(alloc: Global, schema: &Schema, bytes: &[u8]) -> Result<Option<Rows>, AllocError>
+    ensures rows { IfOk result (λ rows. rows ≡ rows_of schema.now bytes.now) }
+    ensures fit { IfOk result (λ rows. IfSome rows (All (RowFits schema.now))) }
+    ensures count { IfOk result (λ rows. IfSome rows (λ found. length found ≡ length (line_list bytes.now))) }
+{
+    if !are_plain(bytes) {
+        return Ok(None);
+    }
+    rows_of_lines(alloc, schema.columns(), bytes)
+}
+
+// Whether all bytes are plain, so that each line stands as it is written.
+fn are_plain(bytes: &[u8]) -> bool
+    ensures { result ≡ list_all is_plain_byte bytes.now }
+{
+    bytes.iter().all(|byte| is_plain_byte(*byte))
+}
+
+// Whether every reading of comma-separated data takes the byte for itself.
+fn is_plain_byte(byte: u8) -> bool
+    ensures { result ≡ is_plain_byte byte }
+{
+    byte < 128 && byte != b'"' && byte != b'\r'
+}
+
+// The rows of the lines of plain bytes.
+fn rows_of_lines(
+    alloc: Global,
+    columns: &[Column],
+    bytes: &[u8],
+) -> Result<Option<Rows>, AllocError>
+    requires plain { list_all is_plain_byte bytes.now ≡ true }
+    requires few { length columns.now ≤ 32 }
+    ensures rows { IfOk result (λ rows. rows ≡ rows_of_lines columns.now (line_list bytes.now)) }
+    ensures fit { IfOk result (λ rows. IfSome rows (All (RowFits columns.now))) }
+{
+    let mut rows = Rows::new(alloc);
+    let mut rest = bytes;
+    while !rest.is_empty() {
+        let (line, behind) = cut_at(rest, b'\n');
+        let Some(row) = row_of(alloc, columns, line)? else {
+            return Ok(None);
+        };
+        rows.push(row)?;
+        rest = behind.unwrap_or(b"");
+    }
+    Ok(Some(rows))
+}
+
+// The row that a line of plain bytes spells.
+fn row_of(alloc: Global, columns: &[Column], line: &[u8]) -> Result<Option<Row>, AllocError>
+    requires plain { list_all is_plain_byte line.now ≡ true }
+    requires few { length columns.now ≤ 32 }
+    ensures row { IfOk result (λ row. row ≡ row_of columns.now line.now) }
+    ensures fits { IfOk result (λ row. IfSome row (RowFits columns.now)) }
+{
+    if line.is_empty() {
+        return Ok(None);
+    }
+    let Some(row) = values_of(alloc, columns, line)? else {
+        return Ok(None);
+    };
+    if row_length(row.as_slice(), columns) > MAX_ROW_BYTES as usize {
+        return Ok(None);
+    }
+    Ok(Some(row))
+}
+
+// A value for each column, from the fields of a line.
+fn values_of(alloc: Global, columns: &[Column], line: &[u8]) -> Result<Option<Row>, AllocError>
+    ensures { IfOk result (λ values. values ≡ values_of columns.now (fields_of line.now)) }
+{
+    let mut values = Row::with_capacity(alloc, columns.len())?;
+    let mut rest = Some(line);
+    for column in columns {
+        let Some(text) = rest else {
+            return Ok(None);
+        };
+        let (field, behind) = cut_at(text, b',');
+        let Some(value) = field_value(alloc, column.kind, field)? else {
+            return Ok(None);
+        };
+        values.push(value)?;
+        rest = behind;
+    }
+    if rest.is_some() {
+        return Ok(None);
+    }
+    Ok(Some(values))
+}
+
+// The value of a field under a column's type.
+fn field_value(alloc: Global, kind: ColType, field: &[u8]) -> Result<Option<Value>, AllocError>
+    ensures { IfOk result (λ value. value ≡ field_value kind field.now) }
+{
+    match kind {
+        ColType::Int => Ok(integer(field).map(Value::Int)),
+        ColType::Text => {
+            if field.len() > MAX_TEXT_BYTES {
+                return Ok(None);
+            }
+            Ok(Some(Value::Text(Bytes::from_slice(alloc, field)?)))
+        }
+    }
+}
+
+// The number that a field writes.
+fn integer(field: &[u8]) -> Option<i64>
+    ensures { SomeIff result (is_integer field.now ≡ true) (signed_digits_value 10 field.now) }
+{
+    let Ok(text) = str::from_utf8(field) else {
+        return None;
+    };
+    text.parse::<i64>().ok()
+}
+
+// What stands before the first byte that is the mark, and what stands behind that, where there is one.
+fn cut_at(bytes: &[u8], mark: u8) -> (&[u8], Option<&[u8]>)
+    ensures before { list_all (λ b. not (b == mark)) result.0.now ≡ true }
+    ensures behind { MatchOption result.1 (bytes.now ≡ result.0.now) (λ more. bytes.now ≡ result.0.now ++ (mark ∷ more.now)) }
+{
+    match bytes.iter().position(|byte| *byte == mark) {
+        Some(at) => {
+            let (front, from_mark) = bytes.split_at(at);
+            (front, Some(&from_mark[1..]))
+        }
+        None => (bytes, None),
+    }
+}
+
+#[cfg(test)]
+mod tests {
+    use super::*;
+    use hv_row::{Columns, is_schema};
+    use std::test::Fail;
+
+    // The columns `id INT, name TEXT`.
+    fn schema(alloc: Global) -> Result<Schema, Fail> {
+        let mut columns = Columns::new(alloc);
+        for (name, kind) in [("id", ColType::Int), ("name", ColType::Text)] {
+            columns.push(Column {
+                name: Bytes::from_slice(alloc, name.as_bytes())?,
+                kind,
+                index: false,
+                range: false,
+            })?;
+        }
+        if !is_schema(columns.as_slice()) {
+            return Err("no schema".into());
+        }
+        Ok(Schema::new(columns))
+    }
+
+    fn rows(alloc: Global, values: &[(i64, &[u8])]) -> Result<Rows, Fail> {
+        let mut expected = Rows::new(alloc);
+        for (number, text) in values {
+            let mut row = Row::new(alloc);
+            row.push(Value::Int(*number))?;
+            row.push(Value::Text(Bytes::from_slice(alloc, text)?))?;
+            expected.push(row)?;
+        }
+        Ok(expected)
+    }
+
+    #[test]
+    fn reads_rows(rt: HostRuntime) -> Result<(), Fail> {
+        let cases: [(&[u8], &[(i64, &[u8])]); 5] = [
+            (b"", &[]),
+            (b"1,a\n", &[(1, b"a")]),
+            (b"1,a\n-02,'b c'", &[(1, b"a"), (-2, b"'b c'")]),
+            (b"+7,x\n", &[(7, b"x")]),
+            (b"-9223372036854775808,\n", &[(i64::MIN, b"")]),
+        ];
+        for (bytes, want) in cases {
+            let found = rows_of(rt.alloc(), &schema(rt.alloc())?, bytes)?;
+            assert!(rt; found == Some(rows(rt.alloc(), want)?));
+        }
+        Ok(())
+    }
+
+    #[test]
+    fn reads_the_longest_text(rt: HostRuntime) -> Result<(), Fail> {
+        let mut line = [b'a'; 257];
+        line[0] = b'1';
+        line[1] = b',';
+        let found = rows_of(rt.alloc(), &schema(rt.alloc())?, &line)?;
+        assert!(rt; found == Some(rows(rt.alloc(), &[(1, &line[2..])])?));
+        Ok(())
+    }
+
+    #[test]
+    fn refuses_lines(rt: HostRuntime) -> Result<(), Fail> {
+        let mut long = [b'a'; 258];
+        long[0] = b'1';
+        long[1] = b',';
+        let cases: [&[u8]; 14] = [
+            b"\n",
+            b"1,a\n\n2,b\n",
+            b"1\n",
+            b"1,a,b\n",
+            b"1,a,\n",
+            b"x,a\n",
+            b",a\n",
+            b"+,a\n",
+            b"1 ,a\n",
+            b"9223372036854775808,a\n",
+            b"1,\"a\"\n",
+            b"1,a\r\n",
+            b"1,\xc8\n",
+            &long,
+        ];
+        for bytes in cases {
+            assert!(rt; rows_of(rt.alloc(), &schema(rt.alloc())?, bytes)?.is_none());
+        }
+        Ok(())
+    }
+}
