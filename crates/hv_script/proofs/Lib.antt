@@ -1,7 +1,7 @@
 mod Always
 mod Behind
 mod LineCount
-mod Once
+pub mod Once
 mod Parts
 mod Source
 mod TextEnd

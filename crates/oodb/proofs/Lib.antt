@@ -7,3 +7,5 @@ pub mod StoreLaws
 pub mod AnsweredSoFar
 pub mod Running
 pub mod FirstScript
+pub mod Statuses
+pub mod OverMemory

@@ -44,28 +44,28 @@ reads_fault max name byte now source_before source_after before after fault calm
     inr (inr (inl (record { name = name; byte = byte; calm = calm; fault = fault; over = over })))
 
 -- a status that no report has
-unreported : (now other : Status) → now ≡ other → (IsReported other → ⊥) → IsReported now → ⊥
+pub unreported : (now other : Status) → now ≡ other → (IsReported other → ⊥) → IsReported now → ⊥
 unreported now other same never (inl fine) = never (inl (sym same ∙ fine))
 unreported now other same never (inr some) = never (inr (sym same ∙ some))
 
 -- the statuses of the other outcomes
-never_cut : IsReported status.SinkFault → ⊥
+pub never_cut : IsReported status.SinkFault → ⊥
 never_cut (inl e) = cc
 never_cut (inr e) = cc
 
-never_words : IsReported status.Words → ⊥
+pub never_words : IsReported status.Words → ⊥
 never_words (inl e) = cc
 never_words (inr e) = cc
 
-never_script : IsReported status.Script → ⊥
+pub never_script : IsReported status.Script → ⊥
 never_script (inl e) = cc
 never_script (inr e) = cc
 
-never_source : IsReported status.SourceFault → ⊥
+pub never_source : IsReported status.SourceFault → ⊥
 never_source (inl e) = cc
 never_source (inr e) = cc
 
-never_memory : IsReported status.Memory → ⊥
+pub never_memory : IsReported status.Memory → ⊥
 never_memory (inl e) = cc
 never_memory (inr e) = cc
 
@@ -75,10 +75,10 @@ handed_no_report text full now before after never (inl whole) reported = unrepor
 handed_no_report text full now before after never (inr part) reported = unreported now status.SinkFault part.status never_cut reported
 
 -- the report that was taken, where the source told its bytes
-if_some_at : {X : Type 0} (o : Option X) (y : X) (P : X → Type 0) → o ≡ Some y → IfSome o P → P y
+pub if_some_at : {X : Type 0} (o : Option X) (y : X) (P : X → Type 0) → o ≡ Some y → IfSome o P → P y
 if_some_at o y P e h = subst (λ (p : Option _). IfSome p P) e h
 
-whole_of : (text : List ℕ) (full now : Status) (before after : Seen) → IsReported now → HandsOver text full now before after → Whole text full now before after
+pub whole_of : (text : List ℕ) (full now : Status) (before after : Seen) → IsReported now → HandsOver text full now before after → Whole text full now before after
 whole_of text full now before after reported (inl whole) = whole
 whole_of text full now before after reported (inr part) = absurd (unreported now status.SinkFault part.status never_cut reported)
 
@@ -113,7 +113,7 @@ took_answers (Ok chosen) bytes now source_before source_after before after known
     took_reads bytes (max_of chosen) now source_before source_after before after known answers reported
 
 -- what holds of the value, wherever there is one
-if_known : (o : Option (List ℕ)) (P : List ℕ → Type 0) → ((bytes : List ℕ) → o ≡ Some bytes → P bytes) → IfSome o P
+pub if_known : (o : Option (List ℕ)) (P : List ℕ → Type 0) → ((bytes : List ℕ) → o ≡ Some bytes → P bytes) → IfSome o P
 if_known None P h = tt
 if_known (Some bytes) P h = h bytes refl
 

@@ -1,13 +1,16 @@
 -- What a run over memory gives.
-use Rattle.std.specs.Prelude.{◌≡◌, ℕ, List, [], ◌∷◌}
+use Rattle.std.specs.Prelude.{◌≡◌, ◌⊎◌, ℕ, List, [], ◌∷◌}
 use Rattle.hv_model.specs.declared.script.Script.{Script}
 use Rattle.hv_model.specs.declared.catalogue.Entry.{Entry}
 use Rattle.hv_model.specs.declared.reply.Reply.{Reply}
-use Rattle.hv_model.specs.Script.{IsScript}
+use Rattle.hv_model.specs.declared.script.FaultName.{FaultName}
+use Rattle.hv_model.specs.Script.{IsScript, IsFault}
 use Rattle.hv_model.specs.Legal.{Legal}
 use Rattle.hv_model.specs.Report.{report_text}
 use Rattle.oodb.specs.declared.status.Status.{Status}
-use Rattle.oodb.specs.Outcome.{status_of}
+use Rattle.oodb.specs.declared.status.Status.TheVariants as status
+use Rattle.oodb.specs.Lines.{fault_line}
+use Rattle.oodb.specs.Outcome.{status_of, IsReported}
 
 -- these bytes are the report of one history and one list of replies, which are legal for the script of the bytes
 pub record Reports (bytes : List ℕ) (max : ℕ) (now : Status) (report : List ℕ) : Type 0 where
@@ -18,3 +21,15 @@ pub record Reports (bytes : List ℕ) (max : ℕ) (now : Status) (report : List 
   pub legal : Legal script max history (replies ∷ [])
   pub text : report ≡ report_text script history (replies ∷ [])
   pub status : now ≡ status_of replies
+
+-- a run over memory ends with a report or with the line of a fault
+abbrev pub IsEnd : Status → Type 0
+IsEnd now = IsReported now ⊎ ((now ≡ status.Words) ⊎ (now ≡ status.Script))
+
+-- a fault that the bytes have is what the run tells
+abbrev pub TellsItsFault : List ℕ → Status → List ℕ → Type 0
+TellsItsFault bytes now report = (name : FaultName) (byte : ℕ) → IsFault bytes name byte → (now ≡ status.Script) × (report ≡ fault_line name byte)
+
+-- bytes that are a script are reported on
+abbrev pub ReportsItsScript : List ℕ → Status → Type 0
+ReportsItsScript bytes now = (s : Script) → IsScript bytes s → IsReported now

@@ -5,3 +5,4 @@ pub mod StoreFits
 pub mod Answer
 pub mod InMemory
 pub mod FirstScript
+pub mod Statuses

@@ -1,6 +1,6 @@
 // The top call.
 ghost use Rattle.std.specs.List.{list_any};
-ghost use Rattle.std.specs.Prelude.{◌≡◌, false, ◌⊎◌, ℕ, List, [], ◌∷◌, Ok, Err, IfSome, IfOk, OnOk, IfErr};
+ghost use Rattle.std.specs.Prelude.{◌≡◌, false, ◌⊎◌, ℕ, List, [], ◌∷◌, Ok, Err, IsOk, IfSome, IfOk, OnOk, IfErr};
 ghost use Rattle.hv_io.specs.Bytes.{Seen, seen};
 ghost use Rattle.hv_io.specs.Counts.{Rose};
 ghost use Rattle.hv_io.specs.Putting.{TookAll, Stopped};
@@ -8,6 +8,7 @@ ghost use Rattle.hv_model.specs.Words.{options, max_of};
 ghost use Rattle.hv_model.specs.Script.{IsScript, IsFault};
 ghost use Rattle.oodb.specs.Lines.{Handed, word_line, fault_line};
 ghost use Rattle.oodb.specs.Outcome.{told, Answers, Reads, HandsOver, IsReported, TookReport, TookWordLine, TookFaultLine, SinkRose, max_of_words, status_of, is_failed, ReportsOn};
+ghost use Rattle.oodb.specs.Statuses.{TellsFault, CutShort, SinkKept, IsNoScript, IsCalm, SinkCalm, IsAnswered};
 ghost use Rattle.hv_io.specs.Printing.{blank};
 ghost use Rattle.hv_model.specs.Report.{report_text};
 ghost use Rattle.hv_script.specs.Script.{HasOneSession};
@@ -32,6 +33,29 @@ pub fn run<S: Source, K: Sink>(
 ) -> Status
     ensures outcome { Answers (options false words.now) result (told S.left S.faults script.old) (told S.left S.faults script.new) (seen K.taken K.faults K.zeros out.old) (seen K.taken K.faults K.zeros out.new) }
     ensures report { IsReported result → IfSome (S.left script.old) (λ bytes. TookReport bytes (max_of_words (options false words.now)) result (seen K.taken K.faults K.zeros out.old) (seen K.taken K.faults K.zeros out.new)) }
+    ensures words_line { result ≡ status.Words → TookWordLine (options false words.now) (seen K.taken K.faults K.zeros out.old) (seen K.taken K.faults K.zeros out.new) }
+    ensures words { IfErr (options false words.now) (λ i. (told S.left S.faults script.new ≡ told S.left S.faults script.old) × ((result ≡ status.Words) ⊎ (result ≡ status.SinkFault))) }
+    ensures script_line { result ≡ status.Script → IfSome (S.left script.old) (λ bytes. TookFaultLine bytes (seen K.taken K.faults K.zeros out.old) (seen K.taken K.faults K.zeros out.new)) }
+    ensures script { IsOk (options false words.now) → IfSome (S.left script.old) (λ bytes. TellsFault bytes result (told S.left S.faults script.old) (told S.left S.faults script.new) (seen K.taken K.faults K.zeros out.old) (seen K.taken K.faults K.zeros out.new)) }
+    ensures no_script { result ≡ status.Script → IfSome (S.left script.old) (λ bytes. IsNoScript bytes) }
+    ensures source { result ≡ status.SourceFault → Rose (S.faults script.old) (S.faults script.new) × (seen K.taken K.faults K.zeros out.new ≡ seen K.taken K.faults K.zeros out.old) }
+    ensures calm { ¬ (result ≡ status.SourceFault) → S.faults script.new ≡ S.faults script.old }
+    ensures sink { result ≡ status.SinkFault → SinkRose (seen K.taken K.faults K.zeros out.old) (seen K.taken K.faults K.zeros out.new) × IfSome (S.left script.old) (λ bytes. CutShort (options false words.now) bytes (seen K.taken K.faults K.zeros out.old) (seen K.taken K.faults K.zeros out.new)) }
+    ensures sink_calm { ¬ (result ≡ status.SinkFault) → SinkKept (seen K.taken K.faults K.zeros out.old) (seen K.taken K.faults K.zeros out.new) }
+    ensures memory { result ≡ status.Memory → IsOk (options false words.now) × (seen K.taken K.faults K.zeros out.new ≡ seen K.taken K.faults K.zeros out.old) }
+    ensures complete { IsOk (options false words.now) → IsCalm (S.faults script.old) (S.faults script.new) → SinkCalm (seen K.taken K.faults K.zeros out.old) (seen K.taken K.faults K.zeros out.new) → IfSome (S.left script.old) (λ bytes. IsAnswered bytes result) }
+{
+    run_words(alloc, words, script, out)
+}
+
+// Reads the words, and then the script.
+fn run_words<S: Source, K: Sink>(
+    alloc: Global,
+    words: &[Bytes],
+    script: &mut S,
+    out: &mut K,
+) -> Status
+    ensures { Answers (options false words.now) result (told S.left S.faults script.old) (told S.left S.faults script.new) (seen K.taken K.faults K.zeros out.old) (seen K.taken K.faults K.zeros out.new) }
 {
     match read_words(false, words) {
         Err(word) => handed(put_word_line(out, word), Status::Words),

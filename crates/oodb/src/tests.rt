@@ -1,6 +1,9 @@
 // Scripts and what a run makes of them.
 ghost use Rattle.std.specs.Prelude.{◌<◌};
 
+mod scripts;
+
+use crate::memory::run_in_memory;
 use crate::run::run;
 use crate::status::Status;
 use hv_io::{MemSink, MemSource};
@@ -26,11 +29,27 @@ fn ran(
 ) -> Result<Taken, AllocError>
     requires { 0 < cut }
 {
+    ran_in_pieces(alloc, words, script.as_bytes(), 1000, read, cut, write)
+}
+
+// The same over bytes, of which the source gives `give` a call.
+fn ran_in_pieces(
+    alloc: Global,
+    words: &[&str],
+    script: &[u8],
+    give: usize,
+    read: Option<u32>,
+    cut: usize,
+    write: Option<u32>,
+) -> Result<Taken, AllocError>
+    requires gives { 0 < give }
+    requires takes { 0 < cut }
+{
     let mut all = Vec::new(alloc);
     for word in words {
         all.push(Bytes::from_slice(alloc, word.as_bytes())?)?;
     }
-    let mut source = MemSource::new(Vec::from_slice(alloc, script.as_bytes())?, 1000, read);
+    let mut source = MemSource::new(Vec::from_slice(alloc, script)?, give, read);
     let mut out = MemSink::new(alloc, cut, write);
     let status = run(alloc, all.as_slice(), &mut source, &mut out);
     Ok(Taken {
@@ -110,6 +129,26 @@ fn faults_are_told(rt: HostRuntime) -> Result<(), Fail> {
         assert_eq!(rt; got.status, status, "{script}");
         assert_eq!(rt; got.taken.as_slice(), line.as_bytes(), "{script}");
     }
+    Ok(())
+}
+
+#[test]
+fn bytes_in_memory_are_answered(rt: HostRuntime) -> Result<(), Fail> {
+    let alloc = rt.alloc();
+    let words = [Bytes::from_slice(alloc, b"run")?];
+    let done = run_in_memory(
+        alloc,
+        &words,
+        Vec::from_slice(alloc, b"CREATE TABLE t (a INT);\nSELECT * FROM t;\n")?,
+    )?;
+    assert_eq!(rt; done.status, Status::Fine);
+    assert_eq!(rt;
+        done.report.as_slice(),
+        b"session main\n1 ok @1 create t\n2 rows @1 0\nhistory 1\n1 main 1 create t\n".as_slice()
+    );
+    let fault = run_in_memory(alloc, &words, Vec::from_slice(alloc, b";; 'a;b")?)?;
+    assert_eq!(rt; fault.status, Status::Script);
+    assert_eq!(rt; fault.report.as_slice(), b"fault unended 3\n".as_slice());
     Ok(())
 }
 
