@@ -39,8 +39,10 @@ fn main(rt: HostRuntime) -> ExitCode {
 // The words behind the program's name. Arguments that aren't all text are taken as none, so that the first word is at fault.
 fn words_of(alloc: Global, args: io::Result<Args>) -> Result<Vec<Bytes>, AllocError> {
     let mut words = Vec::new(alloc);
-    let Ok(args) = args else {
-        return Ok(words);
+    let args = match args {
+        Ok(args) => args,
+        Err(error) if error.kind() == io::ErrorKind::OutOfMemory => return Err(AllocError),
+        Err(_) => return Ok(words),
     };
     for arg in args.skip(1) {
         words.push(Bytes::from_slice(alloc, arg.as_bytes())?)?;
