@@ -1,3 +1,4 @@
 pub mod Value
 pub mod Schema
 pub mod Row
+pub mod Spelling

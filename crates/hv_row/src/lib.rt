@@ -4,16 +4,20 @@
 
 mod bytes;
 mod copied;
+mod digest;
 mod listed;
 mod row;
 mod schema;
+mod spelling;
 #[cfg(test)]
 mod tests;
 mod value;
 
 pub use bytes::Bytes;
 pub use copied::Copied;
+pub use digest::{DIGEST_BYTES, Digest};
 pub use listed::Listed;
 pub use row::{MAX_ROW_BYTES, MAX_TEXT_BYTES, fits_type, is_text, row_fits, row_length};
 pub use schema::{Column, Columns, MAX_COLUMNS, Schema, first_repeated, has_column, is_schema};
+pub use spelling::{DecodeFault, RowFault, check, decode, encode, encode_onto};
 pub use value::{ColType, Row, Rows, Value, compare};

@@ -11,7 +11,8 @@ pub const MAX_ROW_BYTES: u32 = 2000;
 /// The most bytes of a text in a column, so that one byte has its length: this project's own.
 pub const MAX_TEXT_BYTES: usize = 255;
 
-const INT_BYTES: usize = 8;
+// The bytes of a number.
+pub(crate) const INT_BYTES: usize = 8;
 
 /// Whether a column of texts may hold these bytes: UTF-8 (RFC 3629) of at most 255 bytes.
 pub fn is_text(bytes: &[u8]) -> bool
@@ -55,7 +56,8 @@ pub fn row_fits(row: &[Value], schema: &[Column]) -> bool
 pub fn row_length(row: &[Value], schema: &[Column]) -> usize
     requires fits { RowFits schema.now row.now }
     requires short { length schema.now ≤ 32 }
-    ensures { result ≡ length (row_bytes schema.now row.now) }
+    ensures bytes { result ≡ length (row_bytes schema.now row.now) }
+    ensures short { result ≤ 8192 }
 {
     let mut total = 0;
     for (at, column) in schema.iter().enumerate() {

@@ -1,4 +1,6 @@
 // One table for each call; the expected values are reasoned, and no output of the crate's own.
+mod spelling;
+
 use crate::*;
 use std::alloc::Global;
 use std::cmp::Ordering;
