@@ -1,0 +1,4 @@
+pub mod Layout
+pub mod Heap
+pub mod Fault
+pub mod Chunk
