@@ -1,0 +1,2 @@
+pub mod AllOut
+pub mod InMemory

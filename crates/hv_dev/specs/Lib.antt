@@ -1,0 +1,4 @@
+pub mod Reading
+pub mod Fault
+pub mod Past
+pub mod InMemory

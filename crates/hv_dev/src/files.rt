@@ -1,0 +1,9 @@
+// A device that keeps its files in a folder of the operating system.
+mod device;
+mod file;
+mod port;
+#[cfg(test)]
+mod tests;
+mod writer;
+
+pub use device::FileDevice;

@@ -1,0 +1,62 @@
+// A sealed file of the operating system, and the reads of it.
+ghost use Rattle.std.specs.Prelude.{◌≡◌, ◌++◌, ◌∷◌, [], true, false};
+ghost use Rattle.hv_io.specs.Counts.{Rose};
+ghost use Rattle.hv_dev.specs.Reading.{landing_of};
+
+use crate::memory::{Held, Landed};
+use crate::{PageFile, Past, Reaped};
+use std::io::{Read, Seek, SeekFrom};
+use std::rt::Files;
+use std::{fs, io};
+
+/// A sealed file of the operating system, by its path.
+#[derive(Drop)]
+pub struct StoredFile {
+    path: String,
+}
+
+impl PageFile for StoredFile {
+    ghost tells = { false };
+
+    ghost pages = { λ _. [] };
+}
+
+impl StoredFile {
+    pub fn new(path: String) -> StoredFile {
+        StoredFile { path }
+    }
+
+    // Fills the bytes with those of the page of that number.
+    fn read<R: Files>(&self, rt: &R, number: u32, bytes: &mut [u8]) -> io::Result<()> {
+        let mut file = fs::open(rt, self.path.as_str())?;
+        file.seek(SeekFrom::Start(4096 * u64::from(number)))?;
+        file.read_exact(bytes)
+    }
+}
+
+impl Held<StoredFile> {
+    /// Ends the read: it brings its page and is noted, or it counts as a fault.
+    pub fn fetch<R: Files>(
+        self,
+        rt: &R,
+        faults: &mut u64,
+        landings: &mut Past<Landed<StoredFile>>,
+    ) -> Reaped
+        ensures tag { result.tag ≡ self.tag }
+        ensures owner { result.frame.owner ≡ self.owner }
+        ensures number { result.frame.number ≡ self.frame }
+        ensures noted { result.landed ≡ true → landings.new ≡ landings.old ++ landing_of self result.frame.bytes ∷ [] }
+        ensures calm { result.landed ≡ true → faults.new ≡ faults.old }
+        ensures lost { result.landed ≡ false → landings.new ≡ landings.old }
+        ensures rose { result.landed ≡ false → Rose faults.old faults.new }
+    {
+        let (tag, file, page, mut frame) = self.take_apart();
+        let landed = file.read(rt, page, frame.bytes_mut()).is_ok();
+        if landed {
+            landings.note(&Landed::new(tag, &*file, page, &frame));
+        } else {
+            *faults = faults.saturating_add(1);
+        }
+        Reaped { tag, frame, landed }
+    }
+}

@@ -1,0 +1,142 @@
+// A port in memory.
+ghost use Rattle.std.specs.Prelude.{◌≡◌, ℕ, ◌<◌, ◌≤◌, List, [], length, vec_capacity, Some, IfOk, false};
+
+use super::draw::Draw;
+use super::file::MemFile;
+use super::held::Held;
+use super::landed::Landed;
+use super::plan::Plan;
+use crate::{Order, PageSink, Past, Port, PutFault, Reaped};
+use hv_frames::Frame;
+use std::alloc::{AllocError, Global};
+use std::mem;
+use std::sync::Arc;
+
+/// A port in memory: the open file's pages, the reads under way, and the counts.
+#[derive(Drop)]
+pub struct MemPort<P> {
+    pub(super) plan: P,
+    pages: Vec<[u8; 4096]>,
+    is_given_up: bool,
+    held: Vec<Held<MemFile<P>>>,
+    room: u32,
+    pub(super) submits: u64,
+    pub(super) most: u32,
+    pub(super) landings: Past<Landed<MemFile<P>>>,
+    draw: Draw,
+    ghost has_room: { room ≤ vec_capacity held },
+}
+
+impl<P: Plan> MemPort<P> {
+    /// A port with that plan, number and room.
+    pub fn new(
+        plan: P,
+        alloc: Global,
+        order: Order,
+        number: u64,
+        room: u32,
+    ) -> Result<MemPort<P>, AllocError>
+        ensures plan { IfOk result (λ port. port.plan ≡ plan) }
+        ensures room { IfOk result (λ port. port.room ≡ room) }
+        ensures open { IfOk result (λ port. (port.is_given_up ≡ false) × (port.pages.items ≡ [])) }
+        ensures unread { IfOk result (λ port. (port.held.items ≡ []) × (port.submits ≡ 0) × (port.most ≡ 0) × (port.landings ≡ [])) }
+    {
+        let held = Vec::with_capacity(alloc, room as usize)?;
+        Ok(MemPort {
+            plan,
+            pages: Vec::new(alloc),
+            is_given_up: false,
+            held,
+            room,
+            submits: 0,
+            most: 0,
+            landings: Past::new(),
+            draw: Draw::new(order, number),
+        })
+    }
+}
+
+impl<P: Plan> PageSink for MemPort<P> {
+    type File = MemFile<P>;
+
+    ghost use Rattle.hv_dev.specs.InMemory.{open_pages};
+
+    ghost reading = { λ it. record { in_flight = it.held.items; room = it.room; submits = it.submits; most = it.most; read_faults = P.read_faults it.plan; landings = it.landings } };
+
+    ghost write_faults = { λ it. P.write_faults it.plan };
+
+    ghost written = { λ it. open_pages it.is_given_up it.pages.items };
+
+    fn write(&mut self, _: Global, page: &[u8]) -> Result<(), PutFault> {
+        if self.plan.fails_write() {
+            self.is_given_up = true;
+            return Err(PutFault::Failed);
+        }
+        match self.pages.push(whole(page)) {
+            Ok(()) => Ok(()),
+            Err(_) => {
+                self.is_given_up = true;
+                Err(PutFault::Memory)
+            }
+        }
+    }
+
+    fn seal(&mut self, alloc: Global) -> Result<Arc<MemFile<P>, Global>, PutFault> {
+        if self.plan.fails_seal() {
+            self.is_given_up = true;
+            return Err(PutFault::Failed);
+        }
+        let pages = mem::replace(&mut self.pages, Vec::new(alloc));
+        match Arc::new(alloc, MemFile::new(pages)) {
+            Ok(file) => Ok(file),
+            Err(_) => {
+                self.is_given_up = true;
+                Err(PutFault::Memory)
+            }
+        }
+    }
+
+    fn abandon(&mut self) {
+        self.pages.clear();
+        self.is_given_up = false;
+    }
+}
+
+impl<P: Plan> Port for MemPort<P> {
+    ghost use Rattle.std.specs.Arc.{arc_value};
+    ghost use Rattle.hv_dev.specs.Reading.{submitted};
+
+    fn submit(&mut self, file: Arc<MemFile<P>, Global>, number: u32, frame: Frame, tag: u64)
+        requires room { length (⟦<MemPort<P> as PageSink>⟧.reading self.old).in_flight < (⟦<MemPort<P> as PageSink>⟧.reading self.old).room }
+        ensures under_way { ⟦<MemPort<P> as PageSink>⟧.reading self.new ≡ submitted (⟦<MemPort<P> as PageSink>⟧.reading self.old) (record { tag = tag; file = arc_value file; page = number; owner = frame.owner; frame = frame.number }) }
+        ensures faults { ⟦<MemPort<P> as PageSink>⟧.write_faults self.new ≡ ⟦<MemPort<P> as PageSink>⟧.write_faults self.old }
+        ensures kept { ⟦<MemPort<P> as PageSink>⟧.written self.new ≡ ⟦<MemPort<P> as PageSink>⟧.written self.old }
+    {
+        prove!(self.held.len() < self.room as usize);
+        self.held.push_reserved(Held::new(file, number, frame, tag));
+        self.submits = self.submits.saturating_add(1);
+        self.most = self.most.max(self.held.len() as u32);
+    }
+
+    fn reap(&mut self) -> Reaped {
+        let at = self.draw.pick(self.held.len());
+        let held = self.held.remove(at);
+        held.land(&mut self.plan, &mut self.landings)
+    }
+
+    fn count_submits(&self) -> u64 {
+        self.submits
+    }
+
+    fn count_most(&self) -> u32 {
+        self.most
+    }
+}
+
+// A page's bytes.
+fn whole(page: &[u8]) -> [u8; 4096]
+    requires { length page.now ≡ 4096 }
+    ensures { result ≡ page.now }
+{
+    <[u8; 4096]>::try_from(page).unwrap()
+}
