@@ -1,0 +1,46 @@
+-- A row that was placed is kept with its page, where that was finished.
+use Rattle.std.proofs.Common.{◌<◌, ◌∷◌, ◌++◌, [], ℕ, List, Some, length, ap, sym, ◌∙◌, arith}
+use Rattle.hv_page.specs.Chunk.{IsStored}
+use Rattle.hv_chunk.specs.Building.{Building}
+use Rattle.hv_chunk.proofs.Keeping.{kept_here, kept_next, done_length, stored_of, short_of, anyway, so_too}
+use Rattle.hv_chunk.proofs.builder.ChunkBuilder.push.Goals as goal
+
+pub digest-requires : goal.digest-requires
+digest-requires g c = done_length c.args.row c.in-Ok-add.placed c.done-page.result.now c.self.invariant c.in-Ok-add.ensures.placed c.if-placed.true c.done-page.ensures
+
+pub whole-requires : goal.whole-requires
+whole-requires g c = done_length c.args.row c.in-Ok-add.placed c.done-page.result.now c.self.invariant c.in-Ok-add.ensures.placed c.if-placed.true c.done-page.ensures
+
+pub put-requires-clause-page : goal.put-requires-clause-page
+put-requires-clause-page g c = done_length c.args.row c.in-Ok-add.placed c.done-page.result.now c.self.invariant c.in-Ok-add.ensures.placed c.if-placed.true c.done-page.ensures
+
+pub invariant_of-self-then-placed : goal.invariant_of-self-then-placed
+invariant_of-self-then-placed g c =
+    let few : c.self.inside.row_count < 1000000 = omega (arith, c.self.invariant.counted, ap (λ (b : Building). length b.rows) c.self.view_is, c.requires.few) in
+    let stored : IsStored c.self.inside.schema c.args.row = stored_of _ _ _ _ _ _ c.requires.fits (ap (λ (b : Building). b.schema) c.self.view_is) c.columns.ensures.same c.as_slice.ensures c.row_length.ensures.bytes c.if-row_length.false in
+    kept_next _ _ _ _ _ _ _ _ _ _ c.args.row c.in-Ok-add.placed c.done-page.result.now c.self.invariant few stored c.in-Ok-add.ensures.placed c.if-placed.true c.done-page.ensures c.note.ensures
+    (c.note-then-placed.ensures ∙ ap (λ (p : List ℕ). c.self.inside.pages ++ p ∷ []) c.whole.ensures)
+    (c.push_reserved.ensures.items ∙ ap (λ (d : List (List ℕ)). d ++ c.digest.result ∷ []) c.reserve.ensures.items ∙ ap (λ (d : List ℕ). c.self.inside.digests.items ++ d ∷ []) c.digest.ensures)
+
+pub invariant_of-self-else-placed : goal.invariant_of-self-else-placed
+invariant_of-self-else-placed g c =
+    let few : c.self.inside.row_count < 1000000 = omega (arith, c.self.invariant.counted, ap (λ (b : Building). length b.rows) c.self.view_is, c.requires.few) in
+    let stored : IsStored c.self.inside.schema c.args.row = stored_of _ _ _ _ _ _ c.requires.fits (ap (λ (b : Building). b.schema) c.self.view_is) c.columns.ensures.same c.as_slice.ensures c.row_length.ensures.bytes c.if-row_length.false in
+    kept_here _ _ _ _ _ _ _ _ _ c.args.row c.in-Ok-add.placed c.self.invariant few stored c.in-Ok-add.ensures.placed c.if-placed.false c.note.ensures c.reserve.ensures.items
+
+pub returns-then-placed-clause-pushed : goal.returns-then-placed-clause-pushed
+returns-then-placed-clause-pushed g c = anyway c.put.result (c.note.ensures ∙ ap (λ (b : Building). b.rows ++ c.args.row ∷ []) c.self.view_is, ap (λ (b : Building). b.schema) c.self.view_is)
+
+pub returns-then-placed-clause-mine_still : goal.returns-then-placed-clause-mine_still
+returns-then-placed-clause-mine_still g c = so_too c.put.result c.put.ensures.more
+    (λ more. more c.self.inside.pages (c.requires.mine ∙ ap (λ (b : Building). Some b.pages) (sym c.self.view_is)) ∙ ap (λ (pages : List (List ℕ)). Some pages) (sym (c.note-then-placed.ensures ∙ ap (λ (p : List ℕ). c.self.inside.pages ++ p ∷ []) c.whole.ensures)))
+
+pub returns-then-placed-clause-short : goal.returns-then-placed-clause-short
+returns-then-placed-clause-short g c =
+    let stored : IsStored c.self.inside.schema c.args.row = stored_of _ _ _ _ _ _ c.requires.fits (ap (λ (b : Building). b.schema) c.self.view_is) c.columns.ensures.same c.as_slice.ensures c.row_length.ensures.bytes c.if-row_length.false in
+    anyway c.put.result (short_of _ _ _ (ap (λ (b : Building). b.schema) c.self.view_is) stored)
+
+pub returns-then-placed-clause-cause : goal.returns-then-placed-clause-cause
+returns-then-placed-clause-cause g c =
+    let stored : IsStored c.self.inside.schema c.args.row = stored_of _ _ _ _ _ _ c.requires.fits (ap (λ (b : Building). b.schema) c.self.view_is) c.columns.ensures.same c.as_slice.ensures c.row_length.ensures.bytes c.if-row_length.false in
+    c.put.ensures.cause _ (short_of _ _ _ (ap (λ (b : Building). b.schema) c.self.view_is) stored)

@@ -1,0 +1,179 @@
+// A chunk in the making.
+ghost use Rattle.std.specs.Prelude.{◌≡◌, ℕ, List, Some, Err, [], ◌∷◌, ◌++◌, ◌<◌, ◌≤◌, length, IfOk, IfErr, IsSome, OnOk, OnErr};
+ghost use Rattle.hv_row.specs.Row.{RowFits, row_bytes};
+ghost use Rattle.hv_dev.specs.Fault.{IsCaused};
+ghost use Rattle.hv_chunk.specs.Building.{Building, IsBuildFault, IsBuilt};
+ghost use Rattle.hv_chunk.specs.declared.fault.BuildFault.TheVariants.{TooLong};
+
+use crate::{BuildFault, Chunk};
+use hv_dev::{PageSink, Past, PutFault};
+use hv_heap::HeapWriter;
+use hv_page::{PAGE_BYTES, digest};
+use hv_row::{Digest, MAX_ROW_BYTES, Row, Schema, row_length};
+use std::alloc::{AllocError, Global};
+use std::marker::Model;
+
+/// Makes a chunk row by row: pages are written as they are full, over the sink's open file.
+#[derive(Drop)]
+pub struct ChunkBuilder {
+    writer: HeapWriter,
+    digests: Vec<Digest>,
+    row_count: u32,
+    rows: Past<Row>,
+    pages: Past<[u8; PAGE_BYTES]>,
+    schema: Schema,
+}
+
+impl Model for ChunkBuilder {
+    ghost use Rattle.hv_chunk.specs.Building.{Building};
+
+    ghost Value = { Building };
+
+    ghost view = { λ b. record { schema = b.schema; rows = b.rows; pages = b.pages } };
+
+    ghost use Rattle.hv_chunk.specs.Keeping.{IsKept};
+
+    ghost invariant = { λ b. IsKept b.writer (record { schema = b.schema; rows = b.rows; pages = b.pages }) b.digests.items b.row_count };
+}
+
+impl ChunkBuilder {
+    /// A builder without a row. `Err` only for want of memory.
+    pub fn new(alloc: Global, schema: Schema) -> Result<ChunkBuilder, AllocError>
+        ensures { IfOk result (λ b. b ≡ record { schema = schema; rows = []; pages = [] }) }
+    {
+        Ok(ChunkBuilder {
+            writer: HeapWriter::new(alloc, &schema)?,
+            digests: Vec::new(alloc),
+            row_count: 0,
+            rows: Past::new(),
+            pages: Past::new(),
+            schema,
+        })
+    }
+
+    /// Puts a row that fits the schema behind the others, as one of at most 1,000,000; a page that is full is written.
+    /// `TooLong` exactly where the row takes more than 2,000 bytes, and then nothing changes. After another fault the
+    /// open file is abandoned, and the builder may only be dropped.
+    pub fn push<P: PageSink>(
+        &mut self,
+        alloc: Global,
+        row: Row,
+        port: &mut P,
+    ) -> Result<(), BuildFault>
+        requires fits { RowFits self.old.schema row }
+        requires few { length self.old.rows < 1000000 }
+        // The pages written since the last seal or abandon are this builder's.
+        requires mine { P.written port.old ≡ Some self.old.pages }
+        ensures pushed { OnOk result ((self.new.rows ≡ self.old.rows ++ row ∷ []) × (self.new.schema ≡ self.old.schema)) }
+        ensures mine_still { OnOk result (P.written port.new ≡ Some self.new.pages) }
+        ensures calm { OnOk result (P.write_faults port.new ≡ P.write_faults port.old) }
+        ensures short { OnOk result (length (row_bytes self.old.schema row) ≤ 2000) }
+        ensures cause { IfErr result (λ fault. IsBuildFault fault (length (row_bytes self.old.schema row)) (P.write_faults port.old) (P.write_faults port.new)) }
+        ensures unchanged { result ≡ Err TooLong → (self.new ≡ self.old) × (P.written port.new ≡ P.written port.old) }
+        ensures abandoned { IfErr result (λ fault. ¬ (fault ≡ TooLong) → P.written port.new ≡ Some []) }
+        ensures kept { P.reading port.new ≡ P.reading port.old }
+    {
+        if row_length(row.as_slice(), self.schema.columns()) > MAX_ROW_BYTES as usize {
+            return Err(BuildFault::TooLong);
+        }
+        // Room for a digest first: nothing wants memory once the row is placed.
+        let Ok(()) = self.digests.reserve(1) else {
+            port.abandon();
+            return Err(BuildFault::Memory);
+        };
+        let Ok(placed) = self.writer.add(&row) else {
+            port.abandon();
+            return Err(BuildFault::Memory);
+        };
+        self.row_count += 1;
+        self.rows.note(&row);
+        if placed.full {
+            let page = self.writer.done();
+            self.digests.push_reserved(digest(page));
+            self.pages.note(whole(page));
+            return put(port, alloc, page);
+        }
+        Ok(())
+    }
+
+    /// Writes the last page, seals the file and gives the chunk of the rows that were pushed. After a fault the open
+    /// file is abandoned; it is never `TooLong`.
+    pub fn finish<P: PageSink>(
+        self,
+        alloc: Global,
+        port: &mut P,
+    ) -> Result<Chunk<P::File>, BuildFault>
+        requires mine { P.written port.old ≡ Some self.pages }
+        ensures built { IfOk result (λ chunk. IsBuilt P.File.tells P.File.pages self.schema self.rows chunk) }
+        ensures next { P.written port.new ≡ Some [] }
+        ensures calm { OnOk result (P.write_faults port.new ≡ P.write_faults port.old) }
+        ensures cause { IfErr result (λ fault. IsBuildFault fault 0 (P.write_faults port.old) (P.write_faults port.new)) }
+        ensures kept { P.reading port.new ≡ P.reading port.old }
+    {
+        let ChunkBuilder {
+            writer,
+            mut digests,
+            row_count,
+            rows,
+            pages: _,
+            schema,
+        } = self;
+        if row_count > 0 {
+            let page = writer.page();
+            let Ok(()) = digests.push(digest(page)) else {
+                port.abandon();
+                return Err(BuildFault::Memory);
+            };
+            put(port, alloc, page)?;
+        }
+        match port.seal(alloc) {
+            Ok(file) => Ok(Chunk {
+                file,
+                schema,
+                heap_pages: digests.len() as u32,
+                digests,
+                row_count,
+                rows,
+            }),
+            Err(fault) => Err(give_up(port, fault)),
+        }
+    }
+}
+
+// Puts a page behind those of the open file, which is given up where that fails.
+fn put<P: PageSink>(port: &mut P, alloc: Global, page: &[u8]) -> Result<(), BuildFault>
+    requires page { length page.now ≡ 4096 }
+    requires open { IsSome (P.written port.old) }
+    ensures more { OnOk result ((pages : List (List ℕ)) → P.written port.old ≡ Some pages → P.written port.new ≡ Some (pages ++ page.now ∷ [])) }
+    ensures abandoned { OnErr result (P.written port.new ≡ Some []) }
+    ensures calm { OnOk result (P.write_faults port.new ≡ P.write_faults port.old) }
+    ensures cause { (long : ℕ) → long ≤ 2000 → IfErr result (λ fault. IsBuildFault fault long (P.write_faults port.old) (P.write_faults port.new)) }
+    ensures kept { P.reading port.new ≡ P.reading port.old }
+{
+    match port.write(alloc, page) {
+        Ok(()) => Ok(()),
+        Err(fault) => Err(give_up(port, fault)),
+    }
+}
+
+// Gives up the open file, and says why.
+fn give_up<P: PageSink>(port: &mut P, fault: PutFault) -> BuildFault
+    ensures next { P.written port.new ≡ Some [] }
+    ensures calm { P.write_faults port.new ≡ P.write_faults port.old }
+    ensures cause { (long before : ℕ) → long ≤ 2000 → IsCaused fault before (P.write_faults port.old) → IsBuildFault result long before (P.write_faults port.old) }
+    ensures kept { P.reading port.new ≡ P.reading port.old }
+{
+    port.abandon();
+    match fault {
+        PutFault::Failed => BuildFault::Write,
+        PutFault::Memory => BuildFault::Memory,
+    }
+}
+
+// A page's bytes as an array, in place.
+fn whole(page: &[u8]) -> &[u8; PAGE_BYTES]
+    requires { length page.now ≡ 4096 }
+    ensures { result.now ≡ page.now }
+{
+    page.as_array().unwrap()
+}

@@ -1,0 +1,58 @@
+// A sealed chunk.
+ghost use Rattle.std.specs.Prelude.{◌≡◌, ◌≤◌, length};
+
+use hv_dev::{PageFile, Past};
+use hv_row::{Digest, Row, Schema};
+use hv_view::ChunkView;
+use std::alloc::Global;
+use std::marker::Model;
+use std::sync::Arc;
+
+/// A sealed chunk: its file, the digests of its pages, its counts and its schema.
+#[derive(Drop)]
+pub struct Chunk<F> {
+    pub(crate) file: Arc<F, Global>,
+    pub(crate) schema: Schema,
+    pub(crate) digests: Vec<Digest>,
+    pub(crate) heap_pages: u32,
+    pub(crate) row_count: u32,
+    pub(crate) rows: Past<Row>,
+}
+
+impl<F> Model for Chunk<F> {
+    ghost use Rattle.std.specs.Prelude.{◌≡◌, length};
+    ghost use Rattle.std.specs.Arc.{arc_value};
+    ghost use Rattle.hv_view.specs.View.{Viewed};
+
+    ghost Value = { Viewed F };
+
+    ghost view = { λ c. record { rows = c.rows; schema = c.schema; digests = c.digests.items; heap_pages = c.heap_pages; row_count = c.row_count; file = arc_value c.file } };
+
+    ghost invariant = { λ c. c.heap_pages ≡ length c.digests.items };
+}
+
+impl<F: PageFile> ChunkView for Chunk<F> {
+    type File = F;
+
+    ghost viewed = { λ c. c };
+
+    fn heap_pages(&self) -> u32 {
+        self.heap_pages
+    }
+
+    fn row_count(&self) -> u32 {
+        self.row_count
+    }
+
+    fn digest_of(&self, page: u32) -> Digest {
+        self.digests[page as usize]
+    }
+
+    fn file(&self) -> &Arc<F, Global> {
+        &self.file
+    }
+
+    fn schema(&self) -> &Schema {
+        &self.schema
+    }
+}
