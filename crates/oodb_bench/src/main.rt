@@ -1,0 +1,64 @@
+//! `oodb_bench WORK TIMES`: does one kind of work on a full page so many times, for `bench/pages`, which takes the time.
+//! The page has 214 rows of (INT, TEXT of 8 bytes). The program prints a sum over what it did, so that no work falls away.
+#![tactic(auto)]
+
+mod chunk;
+mod work;
+
+use chunk::{build, write_plainly};
+use std::env::Args;
+use std::io::Write;
+use std::process::ExitCode;
+use std::{env, io};
+use work::{Bench, Work};
+
+fn main(rt: HostRuntime) -> ExitCode {
+    let Ok(args) = env::args(&rt) else {
+        return ExitCode::from(2);
+    };
+    let Some((asked, times)) = read_args(args) else {
+        return ExitCode::from(2);
+    };
+    let Ok(bench) = Bench::new(rt.alloc()) else {
+        return ExitCode::from(6);
+    };
+    let done = match asked {
+        Asked::Page(work) => bench.run(rt.alloc(), work, times),
+        Asked::Chunk if times > MAX_ROWS => return ExitCode::from(2),
+        Asked::Chunk => build(rt.alloc(), rt, &bench, times),
+        Asked::Plain => write_plainly(rt.alloc(), rt, &bench, times),
+    };
+    let Ok(sum) = done else {
+        return ExitCode::from(6);
+    };
+    match println!(rt; "{sum}") {
+        Ok(()) => ExitCode::from(0),
+        Err(_) => ExitCode::from(5),
+    }
+}
+
+// The most rows of a chunk.
+const MAX_ROWS: u32 = 1_000_000;
+
+// What is asked for.
+#[derive(Clone, Copy, Debug)]
+enum Asked {
+    /// Work on one page, so many times.
+    Page(Work),
+    /// A chunk of so many rows.
+    Chunk,
+    /// So many pages, hashed and written by a plain loop.
+    Plain,
+}
+
+// What is asked for, and how often.
+fn read_args(args: Args) -> Option<(Asked, u32)> {
+    let mut args = args.skip(1);
+    let asked = match args.next()?.as_str() {
+        "chunk" => Asked::Chunk,
+        "plain" => Asked::Plain,
+        name => Asked::Page(Work::named(name)?),
+    };
+    let times = args.next()?.parse().ok()?;
+    Some((asked, times))
+}
