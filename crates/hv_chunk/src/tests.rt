@@ -1,9 +1,11 @@
-// Chunks over devices in memory; the pages that are wanted are packed here anew, 408 rows of one number to a page.
+// Chunks over devices in memory and over files; the pages that are wanted are packed here anew, 408 rows of one number to a page.
 ghost use Rattle.std.specs.Prelude.{◌≡◌, ◌<◌, ◌≤◌, [], length, true, Some, IfOk};
 ghost use Rattle.std.specs.Arc.{arc_value};
 
 use crate::*;
-use hv_dev::{CleanDevice, Device, Fail, FailKind, MemDevice, Order, PageSink, Port, Reaped};
+use hv_dev::{
+    CleanDevice, Device, Fail, FailKind, FileDevice, MemDevice, Order, PageSink, Port, Reaped,
+};
 use hv_frames::make;
 use hv_page::digest;
 use hv_row::{Bytes, ColType, Column, Columns, Copied, Row, Schema, Value, is_schema, row_fits};
@@ -11,6 +13,7 @@ use hv_view::ChunkView;
 use std::alloc::Global;
 use std::process::Abort;
 use std::sync::Arc;
+use std::{fs, io};
 
 // The most rows of one number that a page has.
 const ROWS: u32 = 408;
@@ -153,6 +156,16 @@ fn packs_408_rows_to_a_page(rt: HostRuntime) {
         let mut device = CleanDevice::new();
         builds_and_reads(&rt, rt.alloc(), &mut device, count, pages);
     }
+}
+
+#[test]
+fn reads_a_chunk_of_files_back(rt: HostRuntime) -> io::Result<()> {
+    let folder = "hv_chunk_files_test";
+    let name = Vec::from_slice(rt.alloc(), folder.as_bytes()).expect(&rt, "a name");
+    let mut device = FileDevice::new(rt.alloc(), rt, name).expect(&rt, "a device");
+    builds_and_reads(&rt, rt.alloc(), &mut device, 1_000, 3);
+    fs::remove_file(&rt, "hv_chunk_files_test/0-0.pages")?;
+    fs::remove_dir(&rt, folder)
 }
 
 // Builds 409 rows on a port that fails once, and again on the same port.

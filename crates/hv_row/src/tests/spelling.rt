@@ -92,12 +92,12 @@ fn names_the_first_byte_at_fault(rt: HostRuntime) -> Result<(), Fail> {
     Ok(())
 }
 
-// A row of eight texts that takes so many bytes: one for each text's length, and the rest in the first texts.
-fn row_of_length(alloc: Global, bytes: usize) -> Result<Row, Fail> {
+// A row of texts that takes so many bytes: one for each text's length, and the rest in the first texts.
+fn row_of_length(alloc: Global, texts: usize, bytes: usize) -> Result<Row, Fail> {
     let letters = [b'a'; MAX_TEXT_BYTES];
-    let mut left = bytes.saturating_sub(8);
+    let mut left = bytes.saturating_sub(texts);
     let mut row = Row::new(alloc);
-    for _ in 0..8 {
+    for _ in 0..texts {
         let taken = left.min(MAX_TEXT_BYTES);
         row.push(Value::Text(Bytes::from_slice(alloc, &letters[..taken])?))?;
         left -= taken;
@@ -107,17 +107,27 @@ fn row_of_length(alloc: Global, bytes: usize) -> Result<Row, Fail> {
 
 #[test]
 fn takes_rows_of_at_most_2000_bytes(rt: HostRuntime) -> Result<(), Fail> {
+    // No row takes no byte: the first value is at fault. Up to 7 bytes are a row of one text.
+    let short = schema_of(rt.alloc(), "t")?;
+    assert_eq!(rt; check(&[], &short), Err(0));
+    for bytes in 1..8 {
+        let row = row_of_length(rt.alloc(), 1, bytes)?;
+        assert!(rt; row_fits(row.as_slice(), short.columns()));
+        let spelt = encode(rt.alloc(), &row, &short).map_err(|_| "too long")?;
+        assert_eq!(rt; spelt.len(), bytes);
+        assert_eq!(rt; decode(rt.alloc(), spelt.as_slice(), &short), Ok(row));
+    }
     let schema = schema_of(rt.alloc(), "tttttttt")?;
     let mut out = Vec::new(rt.alloc());
     for bytes in 8..=2000 {
-        let row = row_of_length(rt.alloc(), bytes)?;
+        let row = row_of_length(rt.alloc(), 8, bytes)?;
         assert!(rt; row_fits(row.as_slice(), schema.columns()));
         out.clear();
         assert_eq!(rt; encode_onto(&mut out, &row, &schema), Ok(()));
         assert_eq!(rt; out.len(), bytes);
         assert_eq!(rt; decode(rt.alloc(), out.as_slice(), &schema), Ok(row));
     }
-    let row = row_of_length(rt.alloc(), 2001)?;
+    let row = row_of_length(rt.alloc(), 8, 2001)?;
     assert!(rt; row_fits(row.as_slice(), schema.columns()));
     let want = RowFault::TooLong { bytes: 2001 };
     assert_eq!(rt; encode_onto(&mut out, &row, &schema), Err(want));
