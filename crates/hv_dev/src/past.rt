@@ -45,6 +45,7 @@ impl<E> Past<E> {
         let before = Snapshot::of(&self.log);
         self.log = Log::More(before, Snapshot::of(entry));
     }
+
     /// Notes the entries of another behind its own. Takes no memory.
     pub fn extend(&mut self, more: &Past<E>)
         ensures { self.new ≡ self.old ++ more.now }

@@ -54,3 +54,11 @@ pub trait PageSink: Drop {
         ensures calm { write_faults self.new ≡ write_faults self.old }
         ensures kept { reading self.new ≡ reading self.old };
 }
+
+// A page as an array.
+pub(crate) fn whole(page: &[u8]) -> &[u8; 4096]
+    requires { length page.now ≡ 4096 }
+    ensures { result.now ≡ page.now }
+{
+    <&[u8; 4096]>::try_from(page).unwrap()
+}

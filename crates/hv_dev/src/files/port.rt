@@ -1,13 +1,16 @@
 // A port over files in a folder.
-ghost use Rattle.std.specs.Prelude.{◌≡◌, ℕ, ◌<◌, ◌≤◌, List, [], length, vec_capacity, Some, IfOk, false};
+ghost use Rattle.std.specs.Prelude.{◌≡◌, ℕ, ◌<◌, ◌≤◌, List, [], length, Some, IfOk, false};
+ghost use Rattle.std.specs.VecDeque.{deque_capacity};
 ghost use Rattle.hv_dev.specs.Fault.{IsCaused};
 
 use super::file::StoredFile;
 use super::writer::Writer;
 use crate::memory::{Held, Landed};
+use crate::sink::whole;
 use crate::{PageSink, Past, Port, PutFault, Reaped};
 use hv_frames::Frame;
 use std::alloc::{AllocError, Global};
+use std::collections::VecDeque;
 use std::rt::Files;
 use std::sync::Arc;
 
@@ -19,12 +22,12 @@ pub struct FilePort<R: Files> {
     is_given_up: bool,
     pub(super) write_faults: u64,
     pub(super) read_faults: u64,
-    held: Vec<Held<StoredFile>>,
+    held: VecDeque<Held<StoredFile>>,
     room: u32,
     pub(super) submits: u64,
     pub(super) most: u32,
     pub(super) landings: Past<Landed<StoredFile>>,
-    ghost has_room: { room ≤ vec_capacity held },
+    ghost has_room: { room ≤ deque_capacity held },
 }
 
 impl<R: Files + Drop> FilePort<R> {
@@ -34,7 +37,7 @@ impl<R: Files + Drop> FilePort<R> {
         ensures open { IfOk result (λ port. (port.is_given_up ≡ false) × (port.pages ≡ []) × (port.write_faults ≡ 0)) }
         ensures unread { IfOk result (λ port. (port.held.items ≡ []) × (port.submits ≡ 0) × (port.most ≡ 0) × (port.read_faults ≡ 0) × (port.landings ≡ [])) }
     {
-        let held = Vec::with_capacity(alloc, room as usize)?;
+        let held = VecDeque::with_capacity(alloc, room as usize)?;
         Ok(FilePort {
             writer,
             pages: Past::new(),
@@ -103,13 +106,14 @@ impl<R: Files + Drop> Port for FilePort<R> {
         ensures kept { ⟦<FilePort<R> as PageSink>⟧.written self.new ≡ ⟦<FilePort<R> as PageSink>⟧.written self.old }
     {
         prove!(self.held.len() < self.room as usize);
-        self.held.push_reserved(Held::new(file, number, frame, tag));
+        let held = Held::new(file, number, frame, tag);
+        self.held.push_back_reserved(held);
         self.submits = self.submits.saturating_add(1);
         self.most = self.most.max(self.held.len() as u32);
     }
 
     fn reap(&mut self) -> Reaped {
-        let held = self.held.remove(0);
+        let held = self.held.pop_front().unwrap();
         held.fetch(&self.writer.rt, &mut self.read_faults, &mut self.landings)
     }
 
@@ -130,12 +134,4 @@ fn count(fault: PutFault, faults: &mut u64)
         PutFault::Failed => *faults = faults.saturating_add(1),
         PutFault::Memory => {}
     }
-}
-
-// A page as an array.
-fn whole(page: &[u8]) -> &[u8; 4096]
-    requires { length page.now ≡ 4096 }
-    ensures { result.now ≡ page.now }
-{
-    <&[u8; 4096]>::try_from(page).unwrap()
 }

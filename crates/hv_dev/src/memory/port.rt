@@ -1,14 +1,17 @@
 // A port in memory.
-ghost use Rattle.std.specs.Prelude.{◌≡◌, ℕ, ◌<◌, ◌≤◌, List, [], length, vec_capacity, Some, IfOk, false};
+ghost use Rattle.std.specs.Prelude.{◌≡◌, ℕ, ◌<◌, ◌≤◌, List, [], length, Some, IfOk, false};
+ghost use Rattle.std.specs.VecDeque.{deque_capacity};
 
 use super::draw::Draw;
 use super::file::MemFile;
 use super::held::Held;
 use super::landed::Landed;
 use super::plan::Plan;
+use crate::sink::whole;
 use crate::{Order, PageSink, Past, Port, PutFault, Reaped};
 use hv_frames::Frame;
 use std::alloc::{AllocError, Global};
+use std::collections::VecDeque;
 use std::mem;
 use std::sync::Arc;
 
@@ -18,13 +21,13 @@ pub struct MemPort<P> {
     pub(super) plan: P,
     pages: Vec<[u8; 4096]>,
     is_given_up: bool,
-    held: Vec<Held<MemFile<P>>>,
+    held: VecDeque<Held<MemFile<P>>>,
     room: u32,
     pub(super) submits: u64,
     pub(super) most: u32,
     pub(super) landings: Past<Landed<MemFile<P>>>,
     draw: Draw,
-    ghost has_room: { room ≤ vec_capacity held },
+    ghost has_room: { room ≤ deque_capacity held },
 }
 
 impl<P: Plan> MemPort<P> {
@@ -41,7 +44,7 @@ impl<P: Plan> MemPort<P> {
         ensures open { IfOk result (λ port. (port.is_given_up ≡ false) × (port.pages.items ≡ [])) }
         ensures unread { IfOk result (λ port. (port.held.items ≡ []) × (port.submits ≡ 0) × (port.most ≡ 0) × (port.landings ≡ [])) }
     {
-        let held = Vec::with_capacity(alloc, room as usize)?;
+        let held = VecDeque::with_capacity(alloc, room as usize)?;
         Ok(MemPort {
             plan,
             pages: Vec::new(alloc),
@@ -72,7 +75,7 @@ impl<P: Plan> PageSink for MemPort<P> {
             self.is_given_up = true;
             return Err(PutFault::Failed);
         }
-        match self.pages.push(whole(page)) {
+        match self.pages.push(*whole(page)) {
             Ok(()) => Ok(()),
             Err(_) => {
                 self.is_given_up = true;
@@ -113,14 +116,15 @@ impl<P: Plan> Port for MemPort<P> {
         ensures kept { ⟦<MemPort<P> as PageSink>⟧.written self.new ≡ ⟦<MemPort<P> as PageSink>⟧.written self.old }
     {
         prove!(self.held.len() < self.room as usize);
-        self.held.push_reserved(Held::new(file, number, frame, tag));
+        let held = Held::new(file, number, frame, tag);
+        self.held.push_back_reserved(held);
         self.submits = self.submits.saturating_add(1);
         self.most = self.most.max(self.held.len() as u32);
     }
 
     fn reap(&mut self) -> Reaped {
         let at = self.draw.pick(self.held.len());
-        let held = self.held.remove(at);
+        let held = self.held.remove(at).unwrap();
         held.land(&mut self.plan, &mut self.landings)
     }
 
@@ -131,12 +135,4 @@ impl<P: Plan> Port for MemPort<P> {
     fn count_most(&self) -> u32 {
         self.most
     }
-}
-
-// A page's bytes.
-fn whole(page: &[u8]) -> [u8; 4096]
-    requires { length page.now ≡ 4096 }
-    ensures { result ≡ page.now }
-{
-    <[u8; 4096]>::try_from(page).unwrap()
 }

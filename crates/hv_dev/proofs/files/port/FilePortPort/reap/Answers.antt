@@ -8,9 +8,9 @@ returns-clause-back g c =
     let within : 0 < length c.args.self.now.held.items = search rules in
     record {
       front = take 0 c.args.self.now.held.items;
-      flight = c.remove-held.result;
+      flight = c.unwrap-held.result;
       back = drop 1 c.args.self.now.held.items;
-      were = around _ _ _ within c.remove-held.ensures.value;
+      were = around _ _ _ within (rw c.unwrap-held.ensures at c.pop_front.ensures.lookup);
       are = search rules;
       called = search rules;
       owner = search rules;

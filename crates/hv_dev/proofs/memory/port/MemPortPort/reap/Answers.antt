@@ -8,9 +8,9 @@ returns-clause-back g c =
     let within : c.pick-at.result < length c.args.self.now.held.items = search rules in
     record {
       front = take c.pick-at.result c.args.self.now.held.items;
-      flight = c.remove-held.result;
+      flight = c.unwrap-held.result;
       back = drop (c.pick-at.result + 1) c.args.self.now.held.items;
-      were = around _ _ _ within c.remove-held.ensures.value;
+      were = around _ _ _ within (rw c.unwrap-held.ensures at c.remove.ensures.value);
       are = search rules;
       called = search rules;
       owner = search rules;
