@@ -215,10 +215,10 @@ kept_next before after schema rows more_rows pages more_pages digests more_diges
     (kept_begins before after (record { schema = schema; rows = rows; pages = pages }) digests row_count row placed kept few stored begins)
 
 -- a row of at most 2,000 bytes is one that a page may hold
-pub stored_of : (schema old_schema columns : List Column) (row values : List Value) (long : ℕ) → RowFits old_schema row → schema ≡ old_schema → columns ≡ schema → values ≡ row → long ≡ length (row_bytes columns values) → long ≤ 2000 → IsStored schema row
-stored_of schema old_schema columns row values long fits same same_columns same_values is short = record {
+pub stored_of : (schema old_schema of_writer : List Column) (row : List Value) → RowFits old_schema row → schema ≡ old_schema → of_writer ≡ schema → length (row_bytes of_writer row) ≤ 2000 → IsStored schema row
+stored_of schema old_schema of_writer row fits same same_writer short = record {
   fits = subst (λ (s : List Column). RowFits s row) (sym same) fits;
-  short = omega (arith, is, ap (λ (s : List Column). length (row_bytes s values)) same_columns, ap (λ (r : List Value). length (row_bytes schema r)) same_values);
+  short = omega (arith, short, ap (λ (s : List Column). length (row_bytes s row)) same_writer);
 }
 
 pub short_of : (schema old_schema : List Column) (row : List Value) → schema ≡ old_schema → IsStored schema row → length (row_bytes old_schema row) ≤ 2000

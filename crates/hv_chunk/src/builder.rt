@@ -1,15 +1,15 @@
 // A chunk in the making.
-ghost use Rattle.std.specs.Prelude.{◌≡◌, ℕ, List, Some, Err, [], ◌∷◌, ◌++◌, ◌<◌, ◌≤◌, length, IfOk, IfErr, IsSome, OnOk, OnErr};
+ghost use Rattle.std.specs.Prelude.{◌≡◌, ℕ, List, Some, Err, true, false, [], ◌∷◌, ◌++◌, ◌<◌, ◌≤◌, length, IfOk, IfErr, IsSome, OnOk, OnErr};
 ghost use Rattle.hv_row.specs.Row.{RowFits, row_bytes};
 ghost use Rattle.hv_dev.specs.Fault.{IsCaused};
 ghost use Rattle.hv_chunk.specs.Building.{Building, IsBuildFault, IsBuilt};
-ghost use Rattle.hv_chunk.specs.declared.fault.BuildFault.TheVariants.{TooLong};
+ghost use Rattle.hv_chunk.specs.declared.fault.BuildFault.TheVariants.{Memory, TooLong};
 
 use crate::{BuildFault, Chunk};
 use hv_dev::{PageSink, Past, PutFault};
 use hv_heap::HeapWriter;
 use hv_page::{PAGE_BYTES, digest};
-use hv_row::{Digest, MAX_ROW_BYTES, Row, Schema, row_length};
+use hv_row::{Digest, MAX_ROW_BYTES, Row, RowFault, Schema, row_length};
 use std::alloc::{AllocError, Global};
 use std::marker::Model;
 
@@ -73,17 +73,15 @@ impl ChunkBuilder {
         ensures abandoned { IfErr result (λ fault. ¬ (fault ≡ TooLong) → P.written port.new ≡ Some []) }
         ensures kept { P.reading port.new ≡ P.reading port.old }
     {
-        if row_length(row.as_slice(), self.schema.columns()) > MAX_ROW_BYTES as usize {
-            return Err(BuildFault::TooLong);
-        }
         // Room for a digest first: nothing wants memory once the row is placed.
         let Ok(()) = self.digests.reserve(1) else {
-            port.abandon();
-            return Err(BuildFault::Memory);
+            let bytes = row_length(row.as_slice(), self.schema.columns());
+            return Err(refuse(port, bytes > MAX_ROW_BYTES as usize));
         };
-        let Ok(placed) = self.writer.add(&row) else {
-            port.abandon();
-            return Err(BuildFault::Memory);
+        let placed = match self.writer.add(&row) {
+            Ok(placed) => placed,
+            Err(RowFault::TooLong { .. }) => return Err(refuse(port, true)),
+            Err(RowFault::Memory) => return Err(refuse(port, false)),
         };
         self.row_count += 1;
         self.rows.note(&row);
@@ -138,6 +136,20 @@ impl ChunkBuilder {
             Err(fault) => Err(give_up(port, fault)),
         }
     }
+}
+
+// Says why a row isn't placed: it is too long, or memory ran out and the open file is given up.
+fn refuse<P: PageSink>(port: &mut P, long: bool) -> BuildFault
+    ensures long { long ≡ true → (result ≡ TooLong) × (port.new ≡ port.old) }
+    ensures memory { long ≡ false → (result ≡ Memory) × (P.written port.new ≡ Some []) }
+    ensures calm { P.write_faults port.new ≡ P.write_faults port.old }
+    ensures kept { P.reading port.new ≡ P.reading port.old }
+{
+    if long {
+        return BuildFault::TooLong;
+    }
+    port.abandon();
+    BuildFault::Memory
 }
 
 // Puts a page behind those of the open file, which is given up where that fails.

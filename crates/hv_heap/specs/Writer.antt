@@ -1,5 +1,5 @@
 -- Rows packed into heap pages one after another. This project's own.
-use Rattle.std.specs.Prelude.{◌≡◌, ℕ, ◌+◌, ◌<◌, ◌⊎◌, true, false, List, [], ◌∷◌, ◌++◌, length}
+use Rattle.std.specs.Prelude.{◌≡◌, ℕ, ◌+◌, ◌<◌, ◌⊎◌, true, false, List, [], ◌∷◌, ◌++◌, length, take, drop}
 use Rattle.hv_row.specs.declared.value.Value.{Value}
 use Rattle.hv_row.specs.declared.schema.Column.{Column}
 use Rattle.hv_row.specs.Row.{row_bytes}
@@ -18,6 +18,10 @@ pub record Packing : Type 0 where
 -- the page that is being made
 abbrev pub page_now : Packing → List ℕ
 page_now packing = page_of heap_kind written_version packing.number packing.entries
+
+-- the page that starts at a place of a longer list
+abbrev pub page_at : ℕ → List ℕ → List ℕ
+page_at from room = take 4096 (drop from room)
 
 -- a row went behind the entries of the page, where it fitted
 pub record Stays (before after : Packing) (entry : List ℕ) (placed : Placed) : Type 0 where

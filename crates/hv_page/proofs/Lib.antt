@@ -6,3 +6,5 @@ pub mod Points
 pub mod Faultless
 pub mod Whole
 pub mod Rows
+pub mod Lowering
+pub mod MovingDown

@@ -64,11 +64,11 @@ abbrev six_puts : ℕ → ℕ → ℕ → ℕ → ℕ → ℕ → List ℕ → L
 six_puts at to k₁ k₂ k₃ k₄ page moved higher offset entry counted after = put_mid 6 2 (put_mid 4 2 (put_mid to k₄ (put_mid at k₃ (put_mid 16 k₂ (put_mid at k₁ page moved) higher) offset) entry) counted) after
 
 -- parts that are equal, one by one
-page_by_same : (kind number c d u v : ℕ) (p q b a f g : List ℕ) → c ≡ d → u ≡ v → p ≡ q → b ≡ a → f ≡ g → page_by kind number c u p b f ≡ page_by kind number d v q a g
+pub page_by_same : (kind number c d u v : ℕ) (p q b a f g : List ℕ) → c ≡ d → u ≡ v → p ≡ q → b ≡ a → f ≡ g → page_by kind number c u p b f ≡ page_by kind number d v q a g
 page_by_same kind number c d u v p q b a f g e₁ e₂ e₃ e₄ e₅ = cc
 
 -- the offsets and the entries with the new one behind them
-page_by_grouped : (kind number c u : ℕ) (p q b a f counter final : List ℕ) → counter ≡ to_be_bytes w16 c → final ≡ to_be_bytes w16 u →
+pub page_by_grouped : (kind number c u : ℕ) (p q b a f counter final : List ℕ) → counter ≡ to_be_bytes w16 c → final ≡ to_be_bytes w16 u →
     (79 ∷ 68 ∷ kind ∷ written_version ∷ []) ++ (counter ++ (final ++ ((to_be_bytes w32 number ++ 0 ∷ 0 ∷ 0 ∷ 0 ∷ []) ++ (p ++ (q ++ (b ++ (a ++ f)))))))
     ≡ page_by kind number c u (p ++ q) (b ++ a) f
 page_by_grouped kind number c u p q b a f counter final counter-is final-is = rw (counter-is, final-is) (simp append_assoc)

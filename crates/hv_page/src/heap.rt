@@ -47,6 +47,7 @@ pub fn parse_heap<'a>(page: &'a [u8], number: u32, schema: &Schema) -> Result<He
 }
 
 // The page's points in their order.
+#[inline(never)]
 fn view_of<'a>(page: &'a [u8], number: u32, schema: &Schema) -> Result<HeapView<'a>, Form>
     requires { length page.now ≡ 4096 }
     ensures read { IfOk result (λ view. view ≡ entries_of page.now) }

@@ -1,5 +1,5 @@
 // How a page is made, entry by entry.
-ghost use Rattle.std.specs.Prelude.{◌≡◌, ℕ, [], ◌∷◌, ◌++◌, ◌+◌, ◌-◌, ◌<◌, ◌≤◌, List, length, take, drop, true, false};
+ghost use Rattle.std.specs.Prelude.{◌≡◌, ℕ, [], ◌∷◌, ◌++◌, ◌+◌, ◌*◌, ◌-◌, ◌<◌, ◌≤◌, List, length, take, drop, true, false};
 ghost use Rattle.std.specs.List.{concat};
 ghost use Rattle.hv_page.specs.Layout.{IsBegun, WasBegun, used_by, offsets};
 
@@ -63,6 +63,45 @@ pub fn push(page: &mut [u8], entry: &[u8]) -> bool
     page[COUNT_AT..USED_AT].copy_from_slice(&(count + 1).to_be_bytes());
     page[USED_AT..NUMBER_AT].copy_from_slice(&(to as u16).to_be_bytes());
     true
+}
+
+/// Puts an entry behind those of a page that was begun and has 2 bytes before it: it begins with these then, and its
+/// entries stay where they are. `false` exactly where it doesn't fit, and nothing changes. Takes no memory.
+pub fn push_down(window: &mut [u8], entry: &[u8]) -> bool
+    requires begun { WasBegun (drop 2 window.old) }
+    requires two { length window.old ≡ 4098 }
+    ensures pushed { (kind number : ℕ) (entries : List (List ℕ)) → IsBegun kind number (drop 2 window.old) entries → result ≡ true → IsBegun kind number (take 4096 window.new) (entries ++ entry.now ∷ []) }
+    ensures full { (kind number : ℕ) (entries : List (List ℕ)) → IsBegun kind number (drop 2 window.old) entries → result ≡ false → 4096 < used_by (entries ++ entry.now ∷ []) }
+    ensures same { result ≡ false → window.new ≡ window.old }
+{
+    let count = short_at(window, OFFSET_BYTES + COUNT_AT);
+    let used = short_at(window, OFFSET_BYTES + USED_AT);
+    let from = used as usize + OFFSET_BYTES;
+    if PAGE_BYTES < from + entry.len() {
+        return false;
+    }
+    let to = from + entry.len();
+    let offsets_to = OFFSETS_AT + OFFSET_BYTES * count as usize;
+    window.copy_within(OFFSET_BYTES..OFFSET_BYTES + OFFSETS_AT, 0);
+    lower_offsets(&mut window[OFFSETS_AT..offsets_to + OFFSET_BYTES]);
+    window[offsets_to..offsets_to + OFFSET_BYTES].copy_from_slice(&(from as u16).to_be_bytes());
+    window[from..to].copy_from_slice(entry);
+    window[COUNT_AT..USED_AT].copy_from_slice(&(count + 1).to_be_bytes());
+    window[USED_AT..NUMBER_AT].copy_from_slice(&(to as u16).to_be_bytes());
+    true
+}
+
+// Moves offsets 2 places down, over the first two bytes, and raises them by 2.
+fn lower_offsets(bytes: &mut [u8])
+    requires { (from : ℕ) × (entries : List (List ℕ)) × (drop 2 bytes.old ≡ offsets from entries) × (from + length (concat entries) ≤ 4096) × (2 ≤ length bytes.old) }
+    ensures { (from : ℕ) (entries : List (List ℕ)) → drop 2 bytes.old ≡ offsets from entries → from + length (concat entries) ≤ 4096 → take (2 * length entries) bytes.new ≡ offsets (from + 2) entries }
+{
+    for slot in 0..bytes.len() / OFFSET_BYTES - 1 {
+        let at = OFFSET_BYTES * slot;
+        let raised = short_at(bytes, at + OFFSET_BYTES) + OFFSET_BYTES as u16;
+        // Both bytes in one write, so that LLVM raises 16 offsets at a time.
+        bytes[at..at + OFFSET_BYTES].copy_from_slice(&raised.to_be_bytes());
+    }
 }
 
 // Moves bytes 2 places up, over the last two; the first two are of no use then.

@@ -12,5 +12,5 @@ mod tests;
 
 pub use hashing::digest;
 pub use heap::{HEAP_KIND, HeapView, parse_heap};
-pub use layout::{Form, PAGE_BYTES, begin, push};
+pub use layout::{Form, PAGE_BYTES, begin, push, push_down};
 pub use row_id::RowId;

@@ -1,5 +1,5 @@
 // Rows under a schema, and how long their bytes are.
-ghost use Rattle.std.specs.Prelude.{◌≡◌, ◌≤◌, ◌↔◌, length, IsTrue};
+ghost use Rattle.std.specs.Prelude.{◌≡◌, ℕ, ◌+◌, ◌<◌, ◌≤◌, ◌↔◌, length, get_or, IsTrue};
 ghost use Rattle.hv_row.specs.Value.{FitsType, IsTextValue, value_bytes};
 ghost use Rattle.hv_row.specs.Row.{RowFits, row_bytes};
 
@@ -15,10 +15,56 @@ pub const MAX_TEXT_BYTES: usize = 255;
 pub(crate) const INT_BYTES: usize = 8;
 
 /// Whether a column of texts may hold these bytes: UTF-8 (RFC 3629) of at most 255 bytes.
+#[inline]
 pub fn is_text(bytes: &[u8]) -> bool
     ensures { IsTrue result ↔ IsTextValue bytes.now }
 {
-    bytes.len() <= MAX_TEXT_BYTES && str::from_utf8(bytes).is_ok()
+    // Short texts of ASCII are told in place, by few steps and without a call.
+    is_short_ascii(bytes) || is_other_text(bytes)
+}
+
+// Whether these are 8 to 16 bytes, all of them ASCII.
+#[inline]
+fn is_short_ascii(bytes: &[u8]) -> bool
+    ensures { IsTrue result → IsTextValue bytes.now }
+{
+    let long = bytes.len();
+    if long < 8 || 16 < long {
+        return false;
+    }
+    // Two words, which may overlap, have all bytes.
+    is_ascii_word(bytes, 0) & is_ascii_word(bytes, long - 8)
+}
+
+// The high bit of each byte of a word.
+const HIGH_BITS: u64 = 0x8080_8080_8080_8080;
+
+// Whether the eight bytes from a place on are ASCII.
+#[inline]
+fn is_ascii_word(bytes: &[u8], at: usize) -> bool
+    requires { at + 8 ≤ length bytes.now }
+    ensures { IsTrue result → (i : ℕ) → i < 8 → get_or bytes.now (at + i) 0 < 128 }
+{
+    let word = u64::from_le_bytes([
+        bytes[at],
+        bytes[at + 1],
+        bytes[at + 2],
+        bytes[at + 3],
+        bytes[at + 4],
+        bytes[at + 5],
+        bytes[at + 6],
+        bytes[at + 7],
+    ]);
+    word & HIGH_BITS == 0
+}
+
+// Whether a column of texts may hold these bytes, whatever they are; most texts are ASCII, which is told faster.
+#[cold]
+#[inline(never)]
+fn is_other_text(bytes: &[u8]) -> bool
+    ensures { IsTrue result ↔ IsTextValue bytes.now }
+{
+    bytes.len() <= MAX_TEXT_BYTES && (bytes.is_ascii() || str::from_utf8(bytes).is_ok())
 }
 
 /// Whether a column of this type may hold this value.

@@ -47,7 +47,7 @@ fn push_rows<P: PageSink>(
 {
     for number in 0..rows {
         let row = row(alloc, i64::from(number))?;
-        // The test whether it fits counts among the work.
+        // The test whether it fits counts to the making of the row: `make_rows` does it too.
         if !row_fits(row.as_slice(), schema.columns()) {
             return Ok(());
         }
@@ -56,6 +56,18 @@ fn push_rows<P: PageSink>(
         }
     }
     Ok(())
+}
+
+/// Makes so many rows one by one and tests whether each fits, as for a chunk, and gives how many fit.
+pub fn make_rows(alloc: Global, schema: &Schema, rows: u32) -> Result<u64, AllocError> {
+    let mut sum = 0u64;
+    for number in 0..rows {
+        let row = row(alloc, i64::from(number))?;
+        if row_fits(row.as_slice(), schema.columns()) {
+            sum = sum.wrapping_add(1);
+        }
+    }
+    Ok(sum)
 }
 
 /// Hashes and writes so many pages by a plain loop.

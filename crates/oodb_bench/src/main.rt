@@ -5,7 +5,7 @@
 mod chunk;
 mod work;
 
-use chunk::{build, write_plainly};
+use chunk::{build, make_rows, write_plainly};
 use std::env::Args;
 use std::io::Write;
 use std::process::ExitCode;
@@ -26,6 +26,7 @@ fn main(rt: HostRuntime) -> ExitCode {
         Asked::Page(work) => bench.run(rt.alloc(), work, times),
         Asked::Chunk if times > MAX_ROWS => return ExitCode::from(2),
         Asked::Chunk => build(rt.alloc(), rt, &bench, times),
+        Asked::Rows => make_rows(rt.alloc(), &bench.schema, times),
         Asked::Plain => write_plainly(rt.alloc(), rt, &bench, times),
     };
     let Ok(sum) = done else {
@@ -47,6 +48,8 @@ enum Asked {
     Page(Work),
     /// A chunk of so many rows.
     Chunk,
+    /// The rows of such a chunk alone.
+    Rows,
     /// So many pages, hashed and written by a plain loop.
     Plain,
 }
@@ -56,6 +59,7 @@ fn read_args(args: Args) -> Option<(Asked, u32)> {
     let mut args = args.skip(1);
     let asked = match args.next()?.as_str() {
         "chunk" => Asked::Chunk,
+        "rows" => Asked::Rows,
         "plain" => Asked::Plain,
         name => Asked::Page(Work::named(name)?),
     };

@@ -12,6 +12,11 @@ returns-then-before-offset_at c =
       | then-before-offset_at-via-else-before-offset_at+then-used-before w ↦ inr (omega arith)
     ])
 
+pub returns-then-do_offsets_rise : goal.returns-then-do_offsets_rise
+returns-then-do_offsets_rise c =
+    first_fits c.args.page.now c.args.count c.short_at-before.result c.args.used c.requires.some c.short_at-before.ensures c.requires.ends c.requires.counted (omega arith) (omega arith)
+    ∙ c.do_offsets_rise.ensures c.if-do_offsets_rise.true
+
 pub loop-slot-init : goal.loop-slot-init
 loop-slot-init c = record {
   same = first_fits c.args.page.now c.args.count c.short_at-before.result c.args.used c.requires.some c.short_at-before.ensures c.requires.ends c.requires.counted (omega arith) (omega arith);

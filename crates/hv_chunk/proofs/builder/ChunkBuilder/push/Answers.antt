@@ -17,7 +17,7 @@ put-requires-clause-page g c = done_length c.args.row c.in-Ok-add.placed c.done-
 pub invariant_of-self-then-placed : goal.invariant_of-self-then-placed
 invariant_of-self-then-placed g c =
     let few : c.self.inside.row_count < 1000000 = omega (arith, c.self.invariant.counted, ap (λ (b : Building). length b.rows) c.self.view_is, c.requires.few) in
-    let stored : IsStored c.self.inside.schema c.args.row = stored_of _ _ _ _ _ _ c.requires.fits (ap (λ (b : Building). b.schema) c.self.view_is) c.columns.ensures.same c.as_slice.ensures c.row_length.ensures.bytes c.if-row_length.false in
+    let stored : IsStored c.self.inside.schema c.args.row = stored_of _ _ c.self.inside.writer.schema _ c.requires.fits (ap (λ (b : Building). b.schema) c.self.view_is) c.self.invariant.schema_is c.in-Ok-add.ensures.short in
     kept_next _ _ _ _ _ _ _ _ _ _ c.args.row c.in-Ok-add.placed c.done-page.result.now c.self.invariant few stored c.in-Ok-add.ensures.placed c.if-placed.true c.done-page.ensures c.note.ensures
     (c.note-then-placed.ensures ∙ ap (λ (p : List ℕ). c.self.inside.pages ++ p ∷ []) c.whole.ensures)
     (c.push_reserved.ensures.items ∙ ap (λ (d : List (List ℕ)). d ++ c.digest.result ∷ []) c.reserve.ensures.items ∙ ap (λ (d : List ℕ). c.self.inside.digests.items ++ d ∷ []) c.digest.ensures)
@@ -25,7 +25,7 @@ invariant_of-self-then-placed g c =
 pub invariant_of-self-else-placed : goal.invariant_of-self-else-placed
 invariant_of-self-else-placed g c =
     let few : c.self.inside.row_count < 1000000 = omega (arith, c.self.invariant.counted, ap (λ (b : Building). length b.rows) c.self.view_is, c.requires.few) in
-    let stored : IsStored c.self.inside.schema c.args.row = stored_of _ _ _ _ _ _ c.requires.fits (ap (λ (b : Building). b.schema) c.self.view_is) c.columns.ensures.same c.as_slice.ensures c.row_length.ensures.bytes c.if-row_length.false in
+    let stored : IsStored c.self.inside.schema c.args.row = stored_of _ _ c.self.inside.writer.schema _ c.requires.fits (ap (λ (b : Building). b.schema) c.self.view_is) c.self.invariant.schema_is c.in-Ok-add.ensures.short in
     kept_here _ _ _ _ _ _ _ _ _ c.args.row c.in-Ok-add.placed c.self.invariant few stored c.in-Ok-add.ensures.placed c.if-placed.false c.note.ensures c.reserve.ensures.items
 
 pub returns-then-placed-clause-pushed : goal.returns-then-placed-clause-pushed
@@ -37,10 +37,10 @@ returns-then-placed-clause-mine_still g c = so_too c.put.result c.put.ensures.mo
 
 pub returns-then-placed-clause-short : goal.returns-then-placed-clause-short
 returns-then-placed-clause-short g c =
-    let stored : IsStored c.self.inside.schema c.args.row = stored_of _ _ _ _ _ _ c.requires.fits (ap (λ (b : Building). b.schema) c.self.view_is) c.columns.ensures.same c.as_slice.ensures c.row_length.ensures.bytes c.if-row_length.false in
+    let stored : IsStored c.self.inside.schema c.args.row = stored_of _ _ c.self.inside.writer.schema _ c.requires.fits (ap (λ (b : Building). b.schema) c.self.view_is) c.self.invariant.schema_is c.in-Ok-add.ensures.short in
     anyway c.put.result (short_of _ _ _ (ap (λ (b : Building). b.schema) c.self.view_is) stored)
 
 pub returns-then-placed-clause-cause : goal.returns-then-placed-clause-cause
 returns-then-placed-clause-cause g c =
-    let stored : IsStored c.self.inside.schema c.args.row = stored_of _ _ _ _ _ _ c.requires.fits (ap (λ (b : Building). b.schema) c.self.view_is) c.columns.ensures.same c.as_slice.ensures c.row_length.ensures.bytes c.if-row_length.false in
+    let stored : IsStored c.self.inside.schema c.args.row = stored_of _ _ c.self.inside.writer.schema _ c.requires.fits (ap (λ (b : Building). b.schema) c.self.view_is) c.self.invariant.schema_is c.in-Ok-add.ensures.short in
     c.put.ensures.cause _ (short_of _ _ _ (ap (λ (b : Building). b.schema) c.self.view_is) stored)
