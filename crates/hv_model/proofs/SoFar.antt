@@ -14,12 +14,14 @@ use Rattle.hv_model.specs.declared.catalogue.Command.{Command}
 use Rattle.hv_model.specs.declared.catalogue.Detail.{Detail}
 use Rattle.hv_model.specs.declared.catalogue.Entry.{Entry}
 use Rattle.hv_model.specs.declared.reply.Refusal.{Refusal}
+use Rattle.hv_model.specs.declared.reply.Failure.{Failure}
 use Rattle.hv_model.specs.declared.query.Cell.{Cell}
 use Rattle.hv_model.specs.declared.reply.Reply.{Reply}
 use Rattle.hv_model.specs.declared.reply.Reply.TheVariants.{Done, Rows, Refused, Failed}
+use Rattle.hv_model.specs.Tree.{tree_of}
 use Rattle.hv_model.specs.Database.{step, empty_database}
 use Rattle.hv_model.specs.Command.{refusal, statements, statement_named, is_named, after_entry, command_at, database_after, entry_at}
-use Rattle.hv_model.specs.Legal.{number_of, is_done, Names, Accepted, Answered, FollowsNumber}
+use Rattle.hv_model.specs.Legal.{number_of, is_done, Names, Accepted, Answered, FollowsNumber, may_fail}
 use Rattle.hv_model.specs.OneSession.{IsOneSession, Commits, Stays, Settles, LegalSoFar, Kept}
 use Rattle.hv_model.proofs.Places.{slice_get-more, slice_get-kept, slice_get-last}
 
@@ -145,12 +147,13 @@ same_at : (xs : List Statement) (n k : ℕ) (x y : Statement) → slice_get xs n
 same_at xs n k x y at_n at_k same = let e : slice_get xs n ≡ Some y = subst (λ (m : ℕ). slice_get xs m ≡ Some y) same at_k in cc
 
 -- a reply that changes nothing
-stays_more : (s : Script) (xs : List Statement) (max : ℕ) (history : List Entry) (rs : List Reply) (x : Statement) (r : Reply)
-    → LegalSoFar s xs max history rs → slice_get xs (length rs) ≡ Some x → is_done r ≡ false → number_of r ≡ length history
-    → ((n : ℕ) (rows : List (List _)) → r ≡ Rows n rows → Answered x (database_after s history n) max rows)
+stays_more : (s : Script) (xs : List Statement) (max : ℕ) (tells : Bool) (history : List Entry) (rs : List Reply) (x : Statement) (r : Reply)
+    → LegalSoFar s xs max tells history rs → slice_get xs (length rs) ≡ Some x → is_done r ≡ false → number_of r ≡ length history
+    → ((n : ℕ) (rows : List (List _)) → r ≡ Rows n rows → Answered x (database_after s history n) max tells rows)
     → ((n : ℕ) (cause : _) → r ≡ Refused n cause → refusal x (database_after s history n) max ≡ Some cause)
-    → LegalSoFar s xs max history (rs ++ r ∷ [])
-stays_more s xs max history rs x r legal stands not_done number rows_ok refused_ok = record {
+    → ((n : ℕ) (cause : Failure) → r ≡ Failed n cause → may_fail (tree_of x.text) cause ≡ true)
+    → LegalSoFar s xs max tells history (rs ++ r ∷ [])
+stays_more s xs max tells history rs x r legal stands not_done number rows_ok refused_ok failed_ok = record {
   entries = (λ n e at. let had = legal.entries n e at in record {
     place = had.place;
     statement = had.statement;
@@ -170,11 +173,15 @@ stays_more s xs max history rs x r legal stands not_done number rows_ok refused_
   ]);
   rows = (λ k y n rows at_k reply. elim (slice_get-more rs r k (Rows n rows) reply) [
     | inl old ↦ legal.rows k y n rows at_k old.stands
-    | inr last ↦ subst (λ (z : Statement). Answered z (database_after s history n) max rows) (same_at xs (length rs) k x y stands at_k last.at) (rows_ok n rows last.same)
+    | inr last ↦ subst (λ (z : Statement). Answered z (database_after s history n) max tells rows) (same_at xs (length rs) k x y stands at_k last.at) (rows_ok n rows last.same)
   ]);
   refused = (λ k y n cause at_k reply. elim (slice_get-more rs r k (Refused n cause) reply) [
     | inl old ↦ legal.refused k y n cause at_k old.stands
     | inr last ↦ subst (λ (z : Statement). refusal z (database_after s history n) max ≡ Some cause) (same_at xs (length rs) k x y stands at_k last.at) (refused_ok n cause last.same)
+  ]);
+  failed = (λ k y n cause at_k reply. elim (slice_get-more rs r k (Failed n cause) reply) [
+    | inl old ↦ legal.failed k y n cause at_k old.stands
+    | inr last ↦ subst (λ (z : Statement). may_fail (tree_of z.text) cause ≡ true) (same_at xs (length rs) k x y stands at_k last.at) (failed_ok n cause last.same)
   ]);
   counted = rw (counted_more rs r, not_done, legal.counted) (omega arith);
 }
@@ -190,11 +197,11 @@ same_named s xs one e n k x y at_n at_k names_x names_y =
     same_at xs n k x y at_n at_k (omega arith)
 
 -- a reply Done, whose command is the history's new entry
-commits_more : (s : Script) (xs : List Statement) (max : ℕ) → IsOneSession s xs → (before new : Database) (history longer : List Entry) (rs : List Reply) (x : Statement)
+commits_more : (s : Script) (xs : List Statement) (max : ℕ) (tells : Bool) → IsOneSession s xs → (before new : Database) (history longer : List Entry) (rs : List Reply) (x : Statement)
     (at : ℕ) (what : Detail)
-    → before ≡ database_after s history (length history) → LegalSoFar s xs max history rs → slice_get xs (length rs) ≡ Some x
-    → Commits x before history at what new longer → LegalSoFar s xs max longer (rs ++ Done at what ∷ [])
-commits_more s xs max one before new history longer rs x at what is_before legal stands commits =
+    → before ≡ database_after s history (length history) → LegalSoFar s xs max tells history rs → slice_get xs (length rs) ≡ Some x
+    → Commits x before history at what new longer → LegalSoFar s xs max tells longer (rs ++ Done at what ∷ [])
+commits_more s xs max tells one before new history longer rs x at what is_before legal stands commits =
     let e : Entry = commits.entry in
     let r : Reply = Done at what in
     let longer_length : length longer ≡ length history + 1 = rw commits.is_longer (length-more history e) in
@@ -257,51 +264,60 @@ commits_more s xs max one before new history longer rs x at what is_before legal
         | inl old ↦ rw (kept n (legal.within k (Refused n cause) old.stands)) (legal.refused k y n cause at_k old.stands)
         | inr last ↦ absurd (let a : Done at what ≡ Refused n cause = last.same in cc)
       ]);
+      failed = (λ k y n cause at_k reply. elim (slice_get-more rs r k (Failed n cause) reply) [
+        | inl old ↦ legal.failed k y n cause at_k old.stands
+        | inr last ↦ absurd (let a : Done at what ≡ Failed n cause = last.same in cc)
+      ]);
       counted = rw (counted_more rs r, legal.counted) (sym longer_length);
     }
 
 -- the database at the number that a reply without a change tells
-at_present : (s : Script) (xs : List Statement) (max : ℕ) (before new : Database) (history longer : List Entry) (rs : List Reply) (r : Reply)
-    → Kept s xs max before history rs → Stays before history (number_of r) new longer → (n : ℕ) → number_of r ≡ n → database_after s history n ≡ before
-at_present s xs max before new history longer rs r kept stays n e = rw (sym e, stays.at_is) (sym kept.database)
+at_present : (s : Script) (xs : List Statement) (max : ℕ) (tells : Bool) (before new : Database) (history longer : List Entry) (rs : List Reply) (r : Reply)
+    → Kept s xs max tells before history rs → Stays before history (number_of r) new longer → (n : ℕ) → number_of r ≡ n → database_after s history n ≡ before
+at_present s xs max tells before new history longer rs r kept stays n e = rw (sym e, stays.at_is) (sym kept.database)
 
 -- one more statement answered without a change
-stays_kept : (s : Script) (xs : List Statement) (max : ℕ) (before new : Database) (history longer : List Entry) (rs : List Reply) (x : Statement) (r : Reply)
-    → Kept s xs max before history rs → slice_get xs (length rs) ≡ Some x → is_done r ≡ false → Stays before history (number_of r) new longer
-    → ((n : ℕ) (rows : List (List Cell)) → r ≡ Rows n rows → Answered x before max rows)
+stays_kept : (s : Script) (xs : List Statement) (max : ℕ) (tells : Bool) (before new : Database) (history longer : List Entry) (rs : List Reply) (x : Statement) (r : Reply)
+    → Kept s xs max tells before history rs → slice_get xs (length rs) ≡ Some x → is_done r ≡ false → Stays before history (number_of r) new longer
+    → ((n : ℕ) (rows : List (List Cell)) → r ≡ Rows n rows → Answered x before max tells rows)
     → ((n : ℕ) (cause : Refusal) → r ≡ Refused n cause → refusal x before max ≡ Some cause)
-    → Kept s xs max new longer (rs ++ r ∷ [])
-stays_kept s xs max before new history longer rs x r kept stands not_done stays rows_ok refused_ok =
+    → ((n : ℕ) (cause : Failure) → r ≡ Failed n cause → may_fail (tree_of x.text) cause ≡ true)
+    → Kept s xs max tells new longer (rs ++ r ∷ [])
+stays_kept s xs max tells before new history longer rs x r kept stands not_done stays rows_ok refused_ok failed_ok =
     let below : length rs < length xs = slice_get_within xs (length rs) x stands in record {
       database = rw (stays.same_database, stays.same_history) kept.database;
       short = rw (length-more rs r) (omega arith);
-      legal = rw stays.same_history (stays_more s xs max history rs x r kept.legal stands not_done stays.at_is
-          (λ n rows e. rw (at_present s xs max before new history longer rs r kept stays n (ap (λ (q : Reply). number_of q) e)) (rows_ok n rows e))
-          (λ n cause e. rw (at_present s xs max before new history longer rs r kept stays n (ap (λ (q : Reply). number_of q) e)) (refused_ok n cause e)));
+      legal = rw stays.same_history (stays_more s xs max tells history rs x r kept.legal stands not_done stays.at_is
+          (λ n rows e. rw (at_present s xs max tells before new history longer rs r kept stays n (ap (λ (q : Reply). number_of q) e)) (rows_ok n rows e))
+          (λ n cause e. rw (at_present s xs max tells before new history longer rs r kept stays n (ap (λ (q : Reply). number_of q) e)) (refused_ok n cause e))
+          failed_ok);
     }
 
 -- one more statement answered as it has to be
-pub kept_next : (s : Script) (xs : List Statement) (max : ℕ) (before new : Database) (history longer : List Entry) (rs : List Reply) (x : Statement) (r : Reply)
-    → IsOneSession s xs → Kept s xs max before history rs → slice_get xs (length rs) ≡ Some x → Settles x max before history r new longer
-    → Kept s xs max new longer (rs ++ r ∷ [])
-kept_next s xs max before new history longer rs x (Done at what) one kept stands settles = record {
+pub kept_next : (s : Script) (xs : List Statement) (max : ℕ) (tells : Bool) (before new : Database) (history longer : List Entry) (rs : List Reply) (x : Statement) (r : Reply)
+    → IsOneSession s xs → Kept s xs max tells before history rs → slice_get xs (length rs) ≡ Some x → Settles x max tells before history r new longer
+    → Kept s xs max tells new longer (rs ++ r ∷ [])
+kept_next s xs max tells before new history longer rs x (Done at what) one kept stands settles = record {
   database = sym (rw (settles.is_longer, database_after-more s history settles.entry, sym kept.database)
       (after_entry-steps s xs one before new settles.entry (length rs) x settles.command stands settles.names settles.is settles.steps));
   short = rw (length-more rs (Done at what)) (let below : length rs < length xs = slice_get_within xs (length rs) x stands in omega arith);
-  legal = commits_more s xs max one before new history longer rs x at what kept.database kept.legal stands settles;
+  legal = commits_more s xs max tells one before new history longer rs x at what kept.database kept.legal stands settles;
 }
-kept_next s xs max before new history longer rs x (Rows at rows) one kept stands settles =
-    stays_kept s xs max before new history longer rs x (Rows at rows) kept stands refl settles.0
-    (λ n more e. let same : rows ≡ more = cc in subst (λ (z : List (List Cell)). Answered x before max z) same settles.1)
+kept_next s xs max tells before new history longer rs x (Rows at rows) one kept stands settles =
+    stays_kept s xs max tells before new history longer rs x (Rows at rows) kept stands refl settles.0
+    (λ n more e. let same : rows ≡ more = cc in subst (λ (z : List (List Cell)). Answered x before max tells z) same settles.1)
     (λ n cause e. absurd cc)
-kept_next s xs max before new history longer rs x (Refused at cause) one kept stands settles =
-    stays_kept s xs max before new history longer rs x (Refused at cause) kept stands refl settles.0
+    (λ n cause e. absurd cc)
+kept_next s xs max tells before new history longer rs x (Refused at cause) one kept stands settles =
+    stays_kept s xs max tells before new history longer rs x (Refused at cause) kept stands refl settles.0
     (λ n rows e. absurd cc)
     (λ n other e. let same : cause ≡ other = cc in settles.1 ∙ ap (λ (z : Refusal). Some z) same)
-kept_next s xs max before new history longer rs x (Failed at cause) one kept stands settles =
-    stays_kept s xs max before new history longer rs x (Failed at cause) kept stands refl settles
+    (λ n other e. absurd cc)
+kept_next s xs max tells before new history longer rs x (Failed at cause) one kept stands settles =
+    stays_kept s xs max tells before new history longer rs x (Failed at cause) kept stands refl settles.0
     (λ n rows e. absurd cc)
     (λ n other e. absurd cc)
+    (λ n other e. let same : cause ≡ other = cc in subst (λ (z : Failure). may_fail (tree_of x.text) z ≡ true) same settles.1)
 
 -- an empty history has no entry
 no_entry : (n : ℕ) (e : Entry) → entry_at [] n ≡ Some e → ⊥
@@ -309,8 +325,8 @@ no_entry zero e at = cc
 no_entry (suc n) e at = cc
 
 -- before the first statement
-pub kept_start : (s : Script) (xs : List Statement) (max : ℕ) → Kept s xs max empty_database [] []
-kept_start s xs max = record {
+pub kept_start : (s : Script) (xs : List Statement) (max : ℕ) (tells : Bool) → Kept s xs max tells empty_database [] []
+kept_start s xs max tells = record {
   database = refl;
   short = omega arith;
   legal = record {
@@ -321,6 +337,7 @@ kept_start s xs max = record {
     within = (λ k r reply. absurd cc);
     rows = (λ k x n rows at reply. absurd cc);
     refused = (λ k x n cause at reply. absurd cc);
+    failed = (λ k x n cause at reply. absurd cc);
     counted = refl;
   };
 }

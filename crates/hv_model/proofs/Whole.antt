@@ -10,9 +10,7 @@ use Rattle.hv_model.specs.declared.script.Script.{Script}
 use Rattle.hv_model.specs.declared.catalogue.Database.{Database}
 use Rattle.hv_model.specs.declared.catalogue.Entry.{Entry}
 use Rattle.hv_model.specs.declared.reply.Reply.{Reply}
-use Rattle.hv_model.specs.declared.reply.Reply.TheVariants.{Done, Rows, Refused}
-use Rattle.hv_model.specs.declared.reply.Failure.{Failure}
-use Rattle.hv_model.specs.declared.reply.Failure.TheVariants.{Memory}
+use Rattle.hv_model.specs.declared.reply.Reply.TheVariants.{Done, Rows, Refused, Failed}
 use Rattle.hv_model.specs.Legal.{number_of, is_done, is_done_option, reply_to, done_before, Stands, Legal}
 use Rattle.hv_model.specs.OneSession.{IsOneSession, HasReply, HasEntry, LegalSoFar, Kept}
 use Rattle.hv_model.proofs.SoFar.{statements_one}
@@ -54,9 +52,9 @@ count_main (x ∷ xs) a of_main =
     = count_main xs (a + 1) (λ k y at. of_main (suc k) y at) in omega arith)
 
 -- the Done replies of the one phase are as many as the entries
-pub done_one : (s : Script) (xs : List Statement) (max : ℕ) (now : Database) (history : List Entry) (rs : List Reply)
-    → IsOneSession s xs → Kept s xs max now history rs → length rs ≡ length xs → done_before s (rs ∷ []) (0 + 1) ≡ length history
-done_one s xs max now history rs one kept all =
+pub done_one : (s : Script) (xs : List Statement) (max : ℕ) (tells : Bool) (now : Database) (history : List Entry) (rs : List Reply)
+    → IsOneSession s xs → Kept s xs max tells now history rs → length rs ≡ length xs → done_before s (rs ∷ []) (0 + 1) ≡ length history
+done_one s xs max tells now history rs one kept all =
     rw (one.phases, append-nil xs, sym kept.legal.counted)
     (count_same (λ x. is_done_option (reply_to s (rs ∷ []) x)) xs rs 0 all
     (λ k x at. ap (λ (r : Option Reply). is_done_option r) (reply_to-one s xs rs one k x at)))
@@ -68,10 +66,6 @@ done_none s replies = refl
 only : (xs : List Statement) (p : ℕ) (phase : List Statement) → slice_get (xs ∷ []) p ≡ Some phase → (p ≡ 0) × (xs ≡ phase)
 only xs zero phase at = (refl, cc)
 only xs (suc p) phase at = absurd cc
-
--- want of memory is the one cause of a failure
-only_memory : (cause : Failure) → cause ≡ Memory
-only_memory Memory = refl
 
 -- there is an element below the length
 is_there : {X : Type 0} (xs : List X) (k : ℕ) → k < length xs → IsSome (slice_get xs k)
@@ -89,10 +83,10 @@ replied : (s : Script) (xs : List Statement) (rs : List Reply) → IsOneSession 
 replied s xs rs one k x r at reply = sym (reply_to-one s xs rs one k x at) ∙ reply
 
 -- all statements answered
-pub legal_whole : (s : Script) (xs : List Statement) (max : ℕ) (now : Database) (history : List Entry) (rs : List Reply)
-    → IsOneSession s xs → Kept s xs max now history rs → length rs ≡ length xs → Legal s max history (rs ∷ [])
-legal_whole s xs max now history rs one kept all =
-    let legal : LegalSoFar s xs max history rs = kept.legal in record {
+pub legal_whole : (s : Script) (xs : List Statement) (max : ℕ) (tells : Bool) (now : Database) (history : List Entry) (rs : List Reply)
+    → IsOneSession s xs → Kept s xs max tells now history rs → length rs ≡ length xs → Legal s max tells history (rs ∷ [])
+legal_whole s xs max tells now history rs one kept all =
+    let legal : LegalSoFar s xs max tells history rs = kept.legal in record {
       once = record {
         some = (λ x at. let p : IsPlaced xs x = placed s xs one x at in
             rw (reply_to-one s xs rs one p.place x p.stands) (is_there rs p.place (let h : p.place < length xs = slice_get_within xs p.place x p.stands in omega arith)));
@@ -119,11 +113,12 @@ legal_whole s xs max now history rs one kept all =
             let only_one : (p ≡ 0) × (xs ≡ phase) = one_phase s xs one p phase at_p in
             let stands : slice_get xs k ≡ Some x = rw only_one.1 at_k in
             let within : number_of r ≤ length history = legal.within k r (replied s xs rs one k x r stands reply) in
-            rw (only_one.0, done_one s xs max now history rs one kept all) (rw (done_none s (rs ∷ [])) (omega arith), within));
+            rw (only_one.0, done_one s xs max tells now history rs one kept all) (rw (done_none s (rs ∷ [])) (omega arith), within));
         rows = (λ x n rows at reply. let p : IsPlaced xs x = placed s xs one x at in
             legal.rows p.place x n rows p.stands (replied s xs rs one p.place x (Rows n rows) p.stands reply));
         refused = (λ x n cause at reply. let p : IsPlaced xs x = placed s xs one x at in
             legal.refused p.place x n cause p.stands (replied s xs rs one p.place x (Refused n cause) p.stands reply));
-        failed = (λ x n cause at reply. only_memory cause);
+        failed = (λ x n cause at reply. let p : IsPlaced xs x = placed s xs one x at in
+            legal.failed p.place x n cause p.stands (replied s xs rs one p.place x (Failed n cause) p.stands reply));
       };
     }

@@ -3,6 +3,8 @@ use Rattle.std.specs.Prelude.{◌≡◌, ℕ, ◌+◌, ◌-◌, ◌<◌, ◌≤�
 use Rattle.std.specs.List.{flat_map}
 use Rattle.std.specs.Option.{option_and_then}
 use Rattle.hv_row.specs.Schema.{same_name}
+use Rattle.hv_model.specs.declared.tree.Ast.{Ast}
+use Rattle.hv_model.specs.declared.tree.Ast.TheVariants as tree
 use Rattle.hv_model.specs.declared.script.Statement.{Statement}
 use Rattle.hv_model.specs.declared.script.Script.{Script}
 use Rattle.hv_model.specs.declared.catalogue.Database.{Database}
@@ -16,6 +18,7 @@ use Rattle.hv_model.specs.declared.reply.Failure.{Failure}
 use Rattle.hv_model.specs.declared.reply.Failure.TheVariants as failure
 use Rattle.hv_model.specs.declared.query.BoundQuery.{BoundQuery}
 use Rattle.hv_model.specs.declared.query.Cell.{Cell}
+use Rattle.hv_model.specs.Tree.{tree_of}
 use Rattle.hv_model.specs.Database.{step}
 use Rattle.hv_model.specs.Query.{IsAnswer}
 use Rattle.hv_model.specs.Command.{statements, command_at, bound, refusal, detail_of, database_after, entry_at}
@@ -115,18 +118,18 @@ WithinPhases s replies upper =
     (p k : ℕ) (phase : List Statement) (x : Statement) (r : Reply) → slice_get s.phases p ≡ Some phase → slice_get phase k ≡ Some x
     → reply_to s replies x ≡ Some r → (done_before s replies p ≤ number_of r) × (number_of r ≤ upper p)
 
--- rows are an answer of the statement's query at a database that doesn't refuse it
-pub record Answered (x : Statement) (s : Database) (max : ℕ) (rows : List (List Cell)) : Type 0 where
+-- the statement has a query at a database that doesn't refuse it; and rows are its answer, where the files tell what they hold
+pub record Answered (x : Statement) (s : Database) (max : ℕ) (tells : Bool) (rows : List (List Cell)) : Type 0 where
   pub query : BoundQuery
   pub allowed : refusal x s max ≡ None
   pub is : bound x s ≡ Some query
-  pub answer : IsAnswer query s rows
+  pub answer : tells ≡ true → IsAnswer query s rows
 
 -- each Rows reply is an answer over the database after as many entries as it tells
-abbrev pub RowsAreAnswers : Script → ℕ → List Entry → List (List Reply) → Type 0
-RowsAreAnswers s max history replies =
+abbrev pub RowsAreAnswers : Script → ℕ → Bool → List Entry → List (List Reply) → Type 0
+RowsAreAnswers s max tells history replies =
     (x : Statement) (n : ℕ) (rows : List (List Cell)) → Stands s x → reply_to s replies x ≡ Some (reply.Rows n rows)
-    → Answered x (database_after s history n) max rows
+    → Answered x (database_after s history n) max tells rows
 
 -- each Refused reply tells the refusal at the database after as many entries as it tells
 abbrev pub RefusalsAreCaused : Script → ℕ → List Entry → List (List Reply) → Type 0
@@ -134,24 +137,46 @@ RefusalsAreCaused s max history replies =
     (x : Statement) (n : ℕ) (cause : Refusal) → Stands s x → reply_to s replies x ≡ Some (reply.Refused n cause)
     → refusal x (database_after s history n) max ≡ Some cause
 
+-- whether a statement with this tree reads pages
+abbrev pub reads_pages : Option Ast → Bool
+reads_pages None = false
+reads_pages (Some (tree.Create name columns)) = false
+reads_pages (Some (tree.Import name wanted)) = false
+reads_pages (Some (tree.SelectAll name)) = true
+
+-- whether a statement with this tree writes pages
+abbrev pub writes_pages : Option Ast → Bool
+writes_pages None = false
+writes_pages (Some (tree.Create name columns)) = false
+writes_pages (Some (tree.Import name wanted)) = true
+writes_pages (Some (tree.SelectAll name)) = false
+
+-- whether a statement with this tree may fail so: a read and a damaged page are of one that reads pages, a write is of one that writes them
+abbrev pub may_fail : Option Ast → Failure → Bool
+may_fail tree failure.Read = reads_pages tree
+may_fail tree failure.Write = writes_pages tree
+may_fail tree (failure.Damaged chunk page why) = reads_pages tree
+may_fail tree failure.Memory = true
+
 -- a Failed reply has a cause that its statement may have; want of memory any statement
 abbrev pub FailuresAreCaused : Script → List (List Reply) → Type 0
 FailuresAreCaused s replies =
     (x : Statement) (n : ℕ) (cause : Failure) → Stands s x → reply_to s replies x ≡ Some (reply.Failed n cause)
-    → cause ≡ failure.Memory
+    → may_fail (tree_of x.text) cause ≡ true
 
--- what holds of the replies so far, with the greatest number that each phase may have
-pub record LegalUpTo (s : Script) (max : ℕ) (upper : ℕ → ℕ) (history : List Entry) (replies : List (List Reply)) : Type 0 where
+-- what holds of the replies so far, with the greatest number that each phase may have; rows are the answers where the files tell what they hold
+pub record LegalUpTo (s : Script) (max : ℕ) (tells : Bool) (upper : ℕ → ℕ) (history : List Entry) (replies : List (List Reply)) : Type 0 where
   pub entries : EntriesAreDone s history replies
   pub done : DoneAreEntries s history replies
   pub steps : EntriesAreSteps s history
   pub along : RisesAlong s replies
   pub phases : WithinPhases s replies upper
-  pub rows : RowsAreAnswers s max history replies
+  pub rows : RowsAreAnswers s max tells history replies
   pub refused : RefusalsAreCaused s max history replies
   pub failed : FailuresAreCaused s replies
 
--- a legal outcome of a script: one history, and one reply to each statement
-pub record Legal (s : Script) (max : ℕ) (history : List Entry) (replies : List (List Reply)) : Type 0 where
+-- a legal outcome of a script: one history, and one reply to each statement. All of it holds where the files tell what they hold; over
+-- others all but what the rows are
+pub record Legal (s : Script) (max : ℕ) (tells : Bool) (history : List Entry) (replies : List (List Reply)) : Type 0 where
   pub once : EachOnce s replies
-  pub parts : LegalUpTo s max (λ p. done_before s replies (p + 1)) history replies
+  pub parts : LegalUpTo s max tells (λ p. done_before s replies (p + 1)) history replies

@@ -10,7 +10,7 @@ use Rattle.hv_model.specs.declared.reply.Reply.TheVariants as reply
 use Rattle.hv_model.specs.declared.reply.Refusal.{Refusal}
 use Rattle.hv_model.specs.declared.reply.Refusal.TheVariants.{Unbuilt}
 use Rattle.hv_model.specs.declared.reply.Failure.{Failure}
-use Rattle.hv_model.specs.declared.reply.Failure.TheVariants.{Memory}
+use Rattle.hv_model.specs.declared.reply.Failure.TheVariants.{Read, Write, Damaged, Memory}
 use Rattle.hv_model.specs.declared.query.Cell.{Cell}
 use Rattle.hv_model.specs.declared.query.Cell.TheVariants.{Num, Txt}
 use Rattle.hv_model.specs.declared.script.Script.{Script}
@@ -40,6 +40,9 @@ refusal_text Unbuilt = codes "unbuilt"
 
 -- why a statement failed
 abbrev pub failure_text : Failure → List ℕ
+failure_text Read = codes "read"
+failure_text Write = codes "write"
+failure_text (Damaged chunk page why) = codes "damaged " ++ decimal chunk ++ codes " " ++ decimal page
 failure_text Memory = codes "memory"
 
 -- the reply to the k-th statement of a session

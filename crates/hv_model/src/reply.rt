@@ -1,6 +1,10 @@
 // What a statement is answered.
+ghost use Rattle.std.specs.Prelude.{◌≡◌};
+ghost use Rattle.hv_model.specs.declared.reply.Failure.TheVariants.{Memory};
+
 use crate::{Detail, OutRows};
-use hv_row::Listed;
+use hv_row::{Digest, Listed};
+use std::alloc::AllocError;
 
 /// Why a statement is refused; nothing has changed then.
 #[derive(Debug, Clone, Copy, PartialEq, Eq)]
@@ -9,11 +13,34 @@ pub enum Refusal {
     Unbuilt,
 }
 
+/// Why a page of a chunk does not serve.
+#[derive(Debug, Clone, Copy, PartialEq, Eq)]
+pub enum Why {
+    /// Its digest is another than the one recorded for it.
+    Digest { recorded: Digest, found: Digest },
+    /// It has the recorded digest, and no form: the first byte that fails.
+    Form { byte: u16 },
+}
+
 /// Why a statement failed; nothing has changed then, and it gives no row.
 #[derive(Debug, Clone, Copy, PartialEq, Eq)]
 pub enum Failure {
+    /// A read failed: of a query alone.
+    Read,
+    /// A write or a seal failed: of an import alone.
+    Write,
+    /// A page that was read is not the one that was written: of a query alone.
+    Damaged { chunk: u32, page: u32, why: Why },
     /// Want of memory.
     Memory,
+}
+
+impl From<AllocError> for Failure {
+    ghost from_gives = { λ _ failure. failure ≡ Memory };
+
+    fn from(_error: AllocError) -> Failure {
+        Failure::Memory
+    }
 }
 
 /// The reply to a statement; `at` is a length of the history.

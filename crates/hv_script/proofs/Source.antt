@@ -1,11 +1,14 @@
 -- Reading a source to its end, and what is known of a script that was read.
-use Rattle.std.proofs.Common.{◌≡◌, ℕ, zero, suc, ◌+◌, ◌<◌, ◌≤◌, List, [], ◌∷◌, ◌++◌, length, take, drop, Option, Some, None, IfSome, Result, Ok, Err, IfErr, codes, refl, sym, ◌∙◌, ap, subst, arith, append_assoc, length-append}
+use Rattle.std.proofs.Common.{◌≡◌, ℕ, zero, suc, ◌+◌, ◌<◌, ◌≤◌, List, [], ◌∷◌, ◌++◌, length, take, drop, Option, Some, None, IfSome, Result, Ok, Err, IfErr, codes, refl, sym, ◌∙◌, ap, subst, arith, append_assoc, length-append, Bool, true, false, cond, leb-true}
+use Rattle.std.specs.Prelude.{nat_le}
 use Rattle.std.specs.List.{slice_get}
 use Rattle.std.specs.Result.{IsErrAnd}
 use Rattle.std.proofs.lemmas.List.{append-nil, take-append-drop}
 use Rattle.hv_io.specs.Bytes.{Consumes, Given, Gives}
-use Rattle.hv_model.specs.Script.{most_bytes, Statements, Takes, TakesLines, data_behind, IsScript, IsFault, IsUnended, IsShortImport, lines_wanted}
+use Rattle.hv_model.specs.Script.{most_bytes, Statements, Takes, line_list, IsScript, IsFault, IsUnended, IsShortImport, lines_wanted}
 use Rattle.hv_model.specs.Tree.{tree_of}
+use Rattle.hv_model.specs.declared.tree.Ast.{Ast}
+use Rattle.hv_model.specs.declared.tree.Ast.TheVariants.{Create, Import, SelectAll}
 use Rattle.hv_model.specs.declared.script.Statement.{Statement}
 use Rattle.hv_model.specs.declared.script.Script.{Script}
 use Rattle.hv_model.specs.declared.script.FaultName.{FaultName}
@@ -16,7 +19,7 @@ use Rattle.hv_script.specs.declared.fault.ReadScriptFault.{ReadScriptFault}
 use Rattle.hv_script.specs.Fault.{IsFaultOf, IfFound, as_read}
 use Rattle.hv_script.specs.Reading.{IsRead}
 use Rattle.hv_script.specs.Script.{HasOneSession}
-use Rattle.hv_script.proofs.Behind.{length_data, length_after}
+use Rattle.hv_script.proofs.Behind.{length_after}
 
 -- nothing was read yet
 pub read_none : (before : Option (List ℕ)) → Consumes before before []
@@ -93,25 +96,25 @@ statement_at bytes k (y ∷ ys) rest s zero x e =
 statement_at bytes k (y ∷ ys) rest s (suc i) x e =
     let q = statement_at s.2.0 (k + 1) ys rest s.2.2 i x e in (q.0, q.1 ∙ omega arith)
 
--- a statement's data is no longer than what it stands in
-lines_within : (wanted : ℕ) (behind lines after : List ℕ) → TakesLines wanted behind lines after → length lines ≤ length behind
-lines_within zero behind lines after t = let n : length lines ≡ 0 = ap length (t.none refl).0 in omega arith
-lines_within (suc w) behind lines after t =
-    let n : length (data_behind behind) ≡ length lines + length after = ap length (t.some (omega arith)) ∙ length-append lines after in
-    omega (arith, length_data behind)
+-- a statement wants at most 1,000,000 lines
+wanted_if : (lines : ℕ) (few : Bool) → nat_le lines 1000000 ≡ few → cond few lines 0 ≤ 1000000
+wanted_if lines true e = leb-true lines 1000000 e
+wanted_if lines false e = omega arith
 
-lines_short : (bytes after : List ℕ) (x : Statement) → Takes bytes x after → length x.lines ≤ length bytes
-lines_short bytes after x t =
-    let n : length bytes ≡ length t.blanks + (length x.text + (1 + length t.behind)) = ap length t.is ∙ length-append t.blanks _ ∙ ap (λ k. length t.blanks + k) (length-append x.text _) ∙ omega arith in
-    omega (arith, lines_within (lines_wanted (tree_of x.text)) t.behind x.lines after t.data_lines)
+wanted_few : (tree : Option Ast) → lines_wanted tree ≤ 1000000
+wanted_few (Some (Import name lines)) = wanted_if lines (nat_le lines 1000000) refl
+wanted_few (Some (Create name columns)) = omega arith
+wanted_few (Some (SelectAll name)) = omega arith
+wanted_few None = omega arith
 
-each_short : (bytes : List ℕ) (k : ℕ) (xs : List Statement) (rest : List ℕ) → Statements bytes k xs rest → (i : ℕ) (x : Statement) → slice_get xs i ≡ Some x → length x.lines ≤ length bytes
+-- and takes no more
+each_short : (bytes : List ℕ) (k : ℕ) (xs : List Statement) (rest : List ℕ) → Statements bytes k xs rest → (i : ℕ) (x : Statement) → slice_get xs i ≡ Some x → length (line_list x.lines) ≤ 1000000
 each_short bytes k [] rest s i x e = absurd cc
 each_short bytes k (y ∷ ys) rest s zero x e =
-    let same : y ≡ x = cc in subst (λ z. length z.lines ≤ length bytes) same (lines_short bytes s.2.0 y s.2.1)
-each_short bytes k (y ∷ ys) rest s (suc i) x e =
-    let later : length x.lines ≤ length s.2.0 = each_short s.2.0 (k + 1) ys rest s.2.2 i x e in
-    omega (arith, takes_one bytes s.2.0 y s.2.1)
+    let same : y ≡ x = cc in
+    let taken : length (line_list y.lines) ≡ lines_wanted (tree_of y.text) = s.2.1.data_lines.count in
+    subst (λ z. length (line_list z.lines) ≤ 1000000) same (omega (arith, wanted_few (tree_of y.text)))
+each_short bytes k (y ∷ ys) rest s (suc i) x e = each_short s.2.0 (k + 1) ys rest s.2.2 i x e
 
 pub one_session : (bytes : List ℕ) (s : Script) → IsScript bytes s → HasOneSession s
 one_session bytes s i =
@@ -124,7 +127,7 @@ one_session bytes s i =
         numbers = λ at x e. (statement_at bytes 1 i.statements i.rest i.read at x e).1;
       };
       few = omega (arith, statements_short bytes 1 i.statements i.rest i.read);
-      short = λ at x e. (let n : length x.lines ≤ length bytes = each_short bytes 1 i.statements i.rest i.read at x e in omega arith);
+      short = each_short bytes 1 i.statements i.rest i.read;
     }
 
 -- the fault that is told of what was read

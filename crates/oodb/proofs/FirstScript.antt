@@ -1,5 +1,5 @@
 -- The first script's outcome, statement by statement.
-use Rattle.std.proofs.Common.{◌≡◌, ℕ, zero, suc, ◌+◌, ◌≤◌, List, [], ◌∷◌, Some, refl, subst, arith, codes, pos}
+use Rattle.std.proofs.Common.{◌≡◌, ℕ, zero, suc, ◌+◌, ◌≤◌, true, List, [], ◌∷◌, Some, refl, subst, arith, codes, pos}
 use Rattle.std.specs.List.{slice_get}
 use Rattle.std.proofs.lemmas.List.Sorted.{IsPermutation-refl}
 use Rattle.hv_row.specs.declared.value.Value.{Value}
@@ -47,9 +47,9 @@ row = Int (pos 1) ∷ Text (codes "a") ∷ []
 abbrev filled : Database
 filled = with_chunk 0 (record { name = codes "t"; schema = plain_column (codes "a") kind.Int ∷ plain_column (codes "b") kind.Text ∷ []; chunks = [] }) (row ∷ []) created
 
-after_create : (max : ℕ) → Kept first.script first.statements max created (first.made ∷ []) (Done 1 (detail.Create (codes "t")) ∷ [])
-after_create max = kept_next first.script first.statements max empty_database created [] (first.made ∷ []) [] first.create (Done 1 (detail.Create (codes "t"))) one_session
-    (kept_start first.script first.statements max) refl
+after_create : (max : ℕ) → Kept first.script first.statements max true created (first.made ∷ []) (Done 1 (detail.Create (codes "t")) ∷ [])
+after_create max = kept_next first.script first.statements max true empty_database created [] (first.made ∷ []) [] first.create (Done 1 (detail.Create (codes "t"))) one_session
+    (kept_start first.script first.statements max true) refl
     (record {
       entry = first.made;
       names = record { session = refl; number = refl };
@@ -62,8 +62,8 @@ after_create max = kept_next first.script first.statements max empty_database cr
       detail = refl;
     })
 
-after_import : (max : ℕ) → Kept first.script first.statements max filled first.history (Done 1 (detail.Create (codes "t")) ∷ Done 2 (detail.Import (codes "t") 1 1) ∷ [])
-after_import max = kept_next first.script first.statements max created filled (first.made ∷ []) first.history (Done 1 (detail.Create (codes "t")) ∷ []) first.import
+after_import : (max : ℕ) → Kept first.script first.statements max true filled first.history (Done 1 (detail.Create (codes "t")) ∷ Done 2 (detail.Import (codes "t") 1 1) ∷ [])
+after_import max = kept_next first.script first.statements max true created filled (first.made ∷ []) first.history (Done 1 (detail.Create (codes "t")) ∷ []) first.import
     (Done 2 (detail.Import (codes "t") 1 1)) one_session (after_create max) refl
     (record {
       entry = first.imported;
@@ -77,18 +77,18 @@ after_import max = kept_next first.script first.statements max created filled (f
       detail = refl;
     })
 
-after_select : (max : ℕ) → Kept first.script first.statements max filled first.history (first.replies_at 2)
-after_select max = kept_next first.script first.statements max filled filled first.history first.history
+after_select : (max : ℕ) → Kept first.script first.statements max true filled first.history (first.replies_at 2)
+after_select max = kept_next first.script first.statements max true filled filled first.history first.history
     (Done 1 (detail.Create (codes "t")) ∷ Done 2 (detail.Import (codes "t") 1 1) ∷ []) first.select (Rows 2 first.rows) one_session (after_import max) refl (
       record { same_database = refl; same_history = refl; at_is = refl },
-      record { query = whole_table 0 (plain_column (codes "a") kind.Int ∷ plain_column (codes "b") kind.Text ∷ []); allowed = refl; is = refl; answer = IsPermutation-refl first.rows },
+      record { query = whole_table 0 (plain_column (codes "a") kind.Int ∷ plain_column (codes "b") kind.Text ∷ []); allowed = refl; is = refl; answer = (λ told. IsPermutation-refl first.rows) },
     )
 
-pub met : (max : ℕ) → Legal first.script max first.history (first.replies_at 2 ∷ [])
-met max = legal_whole first.script first.statements max filled first.history (first.replies_at 2) one_session (after_select max) refl
+pub met : (max : ℕ) → Legal first.script max true first.history (first.replies_at 2 ∷ [])
+met max = legal_whole first.script first.statements max true filled first.history (first.replies_at 2) one_session (after_select max) refl
 
 -- along the session the number of the query may not fall below that of its import
-pub missed : (max : ℕ) → Legal first.script max first.history (first.replies_at 1 ∷ []) → ⊥
+pub missed : (max : ℕ) → Legal first.script max true first.history (first.replies_at 1 ∷ []) → ⊥
 missed max legal =
     let behind : 2 ≤ 1 = legal.parts.along first.import first.select (Done 2 (detail.Import (codes "t") 1 1)) (Rows 1 first.rows)
     (1, refl) (2, refl) refl (omega arith) refl refl in omega arith

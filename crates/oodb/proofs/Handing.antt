@@ -4,7 +4,6 @@ use Rattle.hv_io.specs.Bytes.{Seen}
 use Rattle.hv_io.specs.Putting.{TookAll, Stopped}
 use Rattle.hv_io.specs.declared.writing.PutAll.{PutAll}
 use Rattle.hv_io.proofs.Putting.{took_both, underway_part}
-use Rattle.hv_io.proofs.Buffering.{stopped_more}
 use Rattle.oodb.specs.Lines.{HandsMore}
 
 -- the first part was taken, and the second only in part
@@ -17,7 +16,3 @@ pub hands_next : (bytes : List ℕ) (before after : Seen) (outcome : Result (Uni
     → IfErr outcome (λ cause. Stopped before bytes after cause) → HandsMore bytes (Ok tt) before outcome after
 hands_next bytes before after (Ok done) all part start text h = record { all = took_both start before after text bytes h.all all; part = tt }
 hands_next bytes before after (Err cause) all part start text h = record { all = tt; part = stopped_behind start before after text bytes cause h.all part }
-
--- nothing further, after one that was taken in part
-pub hands_none : (bytes : List ℕ) (now : Seen) (cause : PutAll) → HandsMore bytes (Err cause) now (Err cause) now
-hands_none bytes now cause start text h = record { all = tt; part = stopped_more start text bytes now cause h.part }

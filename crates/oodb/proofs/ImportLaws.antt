@@ -1,8 +1,8 @@
 -- What an import's fields, rows and lines spell, byte by byte.
-use Rattle.std.proofs.Common.{IfOk, IfSome, ◌≡◌, ℕ, zero, suc, ◌+◌, ◌<◌, ◌≤◌, ◌^◌, Bool, true, false, not, cond, ◌&&◌, eqb, ltb, leb, List, [], ◌∷◌, ◌++◌, length, drop, get_or, Option, Some, None, ℤ, pos, neg_ℤ, refl, sym, ◌∙◌, ap, subst, arith, rules, append_assoc, drop-cons, add-one, leb-true, ltb-true, eqb-true, le-leb, lt-ltb, lit<, is_some, MatchOption, Bor, length-append, Result, Ok, Err, SomeIff}
+use Rattle.std.proofs.Common.{◌≡◌, ℕ, zero, suc, ◌+◌, ◌<◌, ◌≤◌, ◌^◌, Bool, true, false, not, cond, ◌&&◌, eqb, ltb, leb, List, [], ◌∷◌, ◌++◌, length, drop, get_or, Option, Some, None, ℤ, pos, neg_ℤ, refl, sym, ◌∙◌, ap, subst, arith, rules, append_assoc, drop-cons, add-one, leb-true, ltb-true, eqb-true, le-leb, lt-ltb, lit<, is_some, MatchOption, Bor, Result, Ok, Err, SomeIff}
 use Rattle.std.specs.Prelude.{FitsSigned, IsUtf8}
 use Rattle.std.specs.Int.{w64}
-use Rattle.std.specs.List.{list_all, onto_first, All}
+use Rattle.std.specs.List.{list_all, onto_first}
 use Rattle.std.specs.Option.{option_map, unwrap_or}
 use Rattle.std.specs.Result.{result_ok}
 use Rattle.std.specs.Str.{IsAscii}
@@ -10,8 +10,6 @@ use Rattle.std.specs.Str.Parse.{IsNumeral, digits_value, without_leading_sign, s
 use Rattle.std.proofs.lemmas.Str.{IsUtf8-from_ascii}
 use Rattle.std.proofs.lemmas.Str.Parse.{IsNumeralModel, numerals_by_value}
 use Rattle.std.proofs.lemmas.List.{drop_all}
-use Rattle.std.proofs.lemmas.List.Folds.{list_all-append}
-use Rattle.std.proofs.lemmas.List.Elements.{All-append, All-cons, All-nil}
 use Rattle.hv_row.specs.declared.value.Value.{Value}
 use Rattle.hv_row.specs.declared.value.Value.TheVariants.{Int, Text}
 use Rattle.hv_row.specs.declared.value.ColType.{ColType}
@@ -20,7 +18,7 @@ use Rattle.hv_row.specs.declared.schema.Column.{Column}
 use Rattle.hv_row.specs.Value.{FitsType}
 use Rattle.hv_row.specs.Row.{RowFits}
 use Rattle.hv_model.specs.Token.{is_digit, is_number}
-use Rattle.hv_model.specs.Import.{is_plain_byte, amount_fits, is_integer, field_value, value_before, values_of, fields_of, row_of, row_before, rows_of_lines}
+use Rattle.hv_model.specs.Import.{is_plain_byte, amount_fits, is_integer, field_value, value_before, values_of, fields_of}
 use Rattle.hv_model.specs.Script.{line_list}
 
 -- Tests that are both true.
@@ -138,17 +136,9 @@ abbrev pub behind : {X : Type 0} → List X → Option (List X) → Option (List
 behind xs None = None
 behind xs (Some ys) = Some (xs ++ ys)
 
-pub behind_none : {X : Type 0} (more : Option (List X)) → behind [] more ≡ more
-behind_none None = refl
-behind_none (Some ys) = refl
-
 pub value_pushed : (vs : List Value) (v : Value) (more : Option (List Value)) → behind vs (value_before (Some v) more) ≡ behind (vs ++ v ∷ []) more
 value_pushed vs v None = refl
 value_pushed vs v (Some ws) = ap Some (sym (append_assoc vs (v ∷ []) ws))
-
-pub row_pushed : (rows : List (List Value)) (row : List Value) (more : Option (List (List Value))) → behind rows (row_before (Some row) more) ≡ behind (rows ++ row ∷ []) more
-row_pushed rows row None = refl
-row_pushed rows row (Some others) = ap Some (sym (append_assoc rows (row ∷ []) others))
 
 -- Rows that are read fit their columns: plain bytes are a text.
 small_plain : (bs : List ℕ) → list_all is_plain_byte bs ≡ true → list_all small bs ≡ true
@@ -215,18 +205,6 @@ cut_lines [] front None some other is = absurd (omega arith)
 cut_lines (b ∷ bs) front None some other is = subst (λ f. list_all (λ b. not (eqb b 10)) f ≡ true → line_list (b ∷ bs) ≡ f ∷ []) is (λ e. lines_whole b bs e) other
 cut_lines bytes front (Some m) some other is = rw is (lines_cut front m.now other)
 
--- both sides of a cut of plain bytes are plain
-pub cut_plain : (mark : ℕ) (bytes front : List ℕ) (more : Option (Bor (List ℕ))) → list_all is_plain_byte bytes ≡ true → MatchOption more (bytes ≡ front) (λ m. bytes ≡ front ++ (mark ∷ m.now)) → (list_all is_plain_byte front ≡ true) × (list_all is_plain_byte (behind_line more) ≡ true)
-cut_plain mark bytes front None plain is = (rw (sym is) plain, refl)
-cut_plain mark bytes front (Some m) plain is =
-    let parts : (list_all is_plain_byte front && list_all is_plain_byte (mark ∷ m.now)) ≡ true = sym (list_all-append is_plain_byte front (mark ∷ m.now)) ∙ (rw (sym is) plain) in
-    (first_of _ _ parts, second_of _ _ (second_of _ _ parts))
-
--- what is behind a line feed is shorter
-pub cut_shorter : (mark : ℕ) (bytes front : List ℕ) (more : Option (Bor (List ℕ))) → 0 < length bytes → MatchOption more (bytes ≡ front) (λ m. bytes ≡ front ++ (mark ∷ m.now)) → length (behind_line more) < length bytes
-cut_shorter mark bytes front None some is = some
-cut_shorter mark bytes front (Some m) some is = let e : length bytes ≡ length front + length (mark ∷ m.now) = ap length is ∙ length-append front (mark ∷ m.now) in omega arith
-
 -- Steps of the loop over the columns: a value more, a field that spells none, a field too few or too many.
 drop_here : {X : Type 0} (xs : List X) (i : ℕ) (x : X) → i < length xs → x ≡ get_or xs i x → drop i xs ≡ x ∷ drop (i + 1) xs
 drop_here xs i x within is = rw (add-one i) (drop-cons xs i x within ∙ ap (λ y. y ∷ drop (suc i) xs) (sym is))
@@ -277,64 +255,3 @@ values_end columns i vs (Some text) whole past some known =
     let found = some_field text.now in
     let none : values_of (drop i columns) (fields_of text.now) ≡ None = rw (drop_all i columns past) (rw found.2 refl) in
     sym (ap (behind vs) none) ∙ known
-
--- Steps of the loop over the lines.
-pub rows_here : (columns : List Column) (rows : List (List Value)) (rest front : List ℕ) (more : Option (Bor (List ℕ))) (whole : Option (List (List Value)))
-    → 0 < length rest → list_all (λ b. not (eqb b 10)) front ≡ true → MatchOption more (rest ≡ front) (λ m. rest ≡ front ++ (10 ∷ m.now))
-    → behind rows (rows_of_lines columns (line_list rest)) ≡ whole
-    → behind rows (row_before (row_of columns front) (rows_of_lines columns (line_list (behind_line more)))) ≡ whole
-rows_here columns rows rest front more whole some other cut known =
-    ap (λ ls. behind rows (rows_of_lines columns ls)) (sym (cut_lines rest front more some other cut)) ∙ known
-
-pub rows_stop : (columns : List Column) (rows : List (List Value)) (rest front : List ℕ) (more : Option (Bor (List ℕ))) (whole : Option (List (List Value)))
-    → 0 < length rest → list_all (λ b. not (eqb b 10)) front ≡ true → MatchOption more (rest ≡ front) (λ m. rest ≡ front ++ (10 ∷ m.now))
-    → behind rows (rows_of_lines columns (line_list rest)) ≡ whole
-    → None ≡ row_of columns front → None ≡ whole
-rows_stop columns rows rest front more whole some other cut known spelt =
-    ap (λ o. behind rows (row_before o (rows_of_lines columns (line_list (behind_line more))))) spelt ∙ rows_here columns rows rest front more whole some other cut known
-
-pub rows_next : (columns : List Column) (rows : List (List Value)) (rest front : List ℕ) (more : Option (Bor (List ℕ))) (whole : Option (List (List Value))) (row : List Value) (pushed : List (List Value))
-    → 0 < length rest → list_all (λ b. not (eqb b 10)) front ≡ true → MatchOption more (rest ≡ front) (λ m. rest ≡ front ++ (10 ∷ m.now))
-    → behind rows (rows_of_lines columns (line_list rest)) ≡ whole
-    → Some row ≡ row_of columns front → pushed ≡ rows ++ row ∷ []
-    → behind pushed (rows_of_lines columns (line_list (behind_line more))) ≡ whole
-rows_next columns rows rest front more whole row pushed some other cut known spelt push =
-    let others = rows_of_lines columns (line_list (behind_line more)) in
-    rw push (sym (row_pushed rows row others) ∙ ap (λ o. behind rows (row_before o others)) spelt ∙ rows_here columns rows rest front more whole some other cut known)
-
-pub all_pushed : (columns : List Column) (rows : List (List Value)) (row : List Value) (pushed : List (List Value)) → All (RowFits columns) rows → RowFits columns row → pushed ≡ rows ++ row ∷ [] → All (RowFits columns) pushed
-all_pushed columns rows row pushed all one push = rw push (All-append (RowFits columns) rows (row ∷ []) all (All-cons (RowFits columns) row [] one (All-nil (RowFits columns))))
-
--- A row for each line.
-rows_length : (cs : List Column) (lines : List (List ℕ)) (rows : List (List Value)) → rows_of_lines cs lines ≡ Some rows → length rows ≡ length lines
-rows_length cs [] rows e = let same : [] ≡ rows = cc in subst (λ rs. length rs ≡ 0) same refl
-rows_length cs (line ∷ lines) rows e =
-    elim (row_of cs line) as (λ o. row_before o (rows_of_lines cs lines) ≡ Some rows → length rows ≡ length (line ∷ lines)) [
-      | None ↦ λ h. absurd (cc)
-      | Some row ↦ elim (rows_of_lines cs lines) as (λ o. rows_of_lines cs lines ≡ o → row_before (Some row) o ≡ Some rows → length rows ≡ length (line ∷ lines)) [
-        | None ↦ λ _ h. absurd (cc)
-        | Some others ↦ λ is h. let same : row ∷ others ≡ rows = cc in
-            let fewer : length others ≡ length lines = rows_length cs lines others is in subst (λ rs. length rs ≡ length (line ∷ lines)) same (omega arith)
-      ] refl
-    ] e
-
-option_count : (cs : List Column) (lines : List (List ℕ)) (o : Option (List (List Value))) → o ≡ rows_of_lines cs lines → IfSome o (λ found. length found ≡ length lines)
-option_count cs lines None e = tt
-option_count cs lines (Some rows) e = rows_length cs lines rows (sym e)
-
-pub rows_count : {E : Type 0} (cs : List Column) (lines : List (List ℕ)) (r : Result (Option (List (List Value))) E) → IfOk r (λ rows. rows ≡ rows_of_lines cs lines) → IfOk r (λ rows. IfSome rows (λ found. length found ≡ length lines))
-rows_count cs lines (Ok o) e = option_count cs lines o e
-rows_count cs lines (Err _) e = e
-
--- there are at most as many lines as bytes
-lines_onto : (b : ℕ) (lines : List (List ℕ)) → length (onto_first b lines) ≤ length lines + 1
-lines_onto b [] = omega arith
-lines_onto b (line ∷ lines) = omega arith
-
-pub lines_fewer : (bytes : List ℕ) → length (line_list bytes) ≤ length bytes
-lines_fewer [] = omega arith
-lines_fewer (b ∷ bs) =
-    elim (eqb b 10) as (λ t. length (cond t ([] ∷ line_list bs) (onto_first b (line_list bs))) ≤ length (b ∷ bs)) [
-      | true ↦ omega (arith, lines_fewer bs)
-      | false ↦ omega (arith, lines_fewer bs, lines_onto b (line_list bs))
-    ]

@@ -1,11 +1,17 @@
 pub mod Answering
+pub mod CausedBack
 pub mod Handing
 pub mod ImportLaws
 pub mod PrintedParts
 pub mod Quotes
+pub mod StoreChanges
 pub mod StoreLaws
+pub mod TableReading
+pub mod Causing
 pub mod AnsweredSoFar
 pub mod Running
 pub mod FirstScript
 pub mod Statuses
 pub mod OverMemory
+pub mod ReadRows
+pub mod Landed

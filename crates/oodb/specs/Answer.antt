@@ -1,7 +1,6 @@
 -- What answering one statement needs and keeps.
-use Rattle.std.specs.Prelude.{◌≡◌, ◌≤◌, ℕ, List, Option, Some, None, All, slice_get}
+use Rattle.std.specs.Prelude.{◌≡◌, ◌≤◌, ℕ, List, Option, Some, None, slice_get}
 use Rattle.hv_row.specs.declared.value.Value.{Value}
-use Rattle.hv_row.specs.Row.{RowFits}
 use Rattle.hv_model.specs.declared.script.Statement.{Statement}
 use Rattle.hv_model.specs.declared.catalogue.Table.{Table}
 use Rattle.hv_model.specs.declared.catalogue.Database.{Database}
@@ -18,19 +17,19 @@ pub record Keeps (before now : Database) (history longer : List Entry) : Type 0 
   pub same_database : now ≡ before
   pub same_history : longer ≡ history
 
--- the statement is an import whose table stands and takes a chunk, and whose data spells these rows under the table's schema
-pub record Imports (x : Statement) (name : List ℕ) (s : Database) (at : ℕ) (rows : List (List Value)) : Type 0 where
+-- the statement is an import whose table, of number `at`, stands and takes a chunk, and whose data spells rows under the table's schema
+pub record Imports (x : Statement) (name : List ℕ) (s : Database) (at : ℕ) : Type 0 where
   pub wanted : ℕ
   pub table : Table
   pub is : tree_of x.text ≡ Some (tree.Import name wanted)
   pub few : wanted ≤ 1000000
   pub number : table_number s name ≡ Some at
   pub stands : slice_get s.tables at ≡ Some table
+  pub rows : List (List Value)
   pub spelled : rows_of table.schema x.lines ≡ Some rows
-  pub fit : All (RowFits table.schema) rows
   pub allowed : import_refusal table s ≡ None
 
 -- an import that isn't built is refused
-abbrev pub IsImportOf : Statement → List ℕ → Database → Option (ℕ × List (List Value)) → Type 0
+abbrev pub IsImportOf : Statement → List ℕ → Database → Option ℕ → Type 0
 IsImportOf x name s None = (max : ℕ) → refusal x s max ≡ Some Unbuilt
-IsImportOf x name s (Some found) = Imports x name s found.0 found.1
+IsImportOf x name s (Some at) = Imports x name s at

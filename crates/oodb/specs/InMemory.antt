@@ -1,5 +1,5 @@
 -- What a run over memory gives.
-use Rattle.std.specs.Prelude.{◌≡◌, ◌⊎◌, ℕ, List, [], ◌∷◌}
+use Rattle.std.specs.Prelude.{◌≡◌, ◌⊎◌, ℕ, true, List, [], ◌∷◌}
 use Rattle.hv_model.specs.declared.script.Script.{Script}
 use Rattle.hv_model.specs.declared.catalogue.Entry.{Entry}
 use Rattle.hv_model.specs.declared.reply.Reply.{Reply}
@@ -10,17 +10,19 @@ use Rattle.hv_model.specs.Report.{report_text}
 use Rattle.oodb.specs.declared.status.Status.{Status}
 use Rattle.oodb.specs.declared.status.Status.TheVariants as status
 use Rattle.oodb.specs.Lines.{fault_line}
+use Rattle.oodb.specs.Causes.{OnlyMemoryFails}
 use Rattle.oodb.specs.Outcome.{status_of, IsReported}
 
--- these bytes are the report of one history and one list of replies, which are legal for the script of the bytes
+-- these bytes are the report of one history and one list of replies, which are legal for the script of the bytes and fail by want of memory alone
 pub record Reports (bytes : List ℕ) (max : ℕ) (now : Status) (report : List ℕ) : Type 0 where
   pub script : Script
   pub history : List Entry
   pub replies : List Reply
   pub script_is : IsScript bytes script
-  pub legal : Legal script max history (replies ∷ [])
+  pub legal : Legal script max true history (replies ∷ [])
   pub text : report ≡ report_text script history (replies ∷ [])
   pub status : now ≡ status_of replies
+  pub only : OnlyMemoryFails replies
 
 -- a run over memory ends with a report or with the line of a fault
 abbrev pub IsEnd : Status → Type 0

@@ -1,8 +1,13 @@
 pub mod Lines
+pub mod Reads
+pub mod Damage
+pub mod Causes
+pub mod RowsOut
+pub mod Stored
+pub mod Imported
+pub mod Answer
 pub mod Outcome
 pub mod Status
-pub mod StoreFits
-pub mod Answer
+pub mod Statuses
 pub mod InMemory
 pub mod FirstScript
-pub mod Statuses

@@ -2,6 +2,7 @@
 use Rattle.std.specs.Prelude.{◌≡◌, ◌⊎◌, ℕ, Bool, true, false, List, [], ◌∷◌, Option, Result, Ok, Err, IfSome, if◌then◌else◌}
 use Rattle.std.specs.List.{list_any}
 use Rattle.hv_io.specs.Bytes.{Seen}
+use Rattle.hv_dev.specs.Reading.{Back}
 use Rattle.hv_io.specs.Counts.{Rose}
 use Rattle.hv_io.specs.Putting.{TookAll, Stopped}
 use Rattle.hv_io.specs.declared.writing.PutAll.{PutAll}
@@ -18,6 +19,7 @@ use Rattle.hv_model.specs.Words.{max_of}
 use Rattle.oodb.specs.declared.status.Status.{Status}
 use Rattle.oodb.specs.declared.status.Status.TheVariants as status
 use Rattle.oodb.specs.Lines.{word_line, fault_line}
+use Rattle.oodb.specs.Causes.{AreCaused}
 
 -- what a clause sees of a source
 pub record Told : Type 0 where
@@ -53,24 +55,28 @@ abbrev pub HandsOver : List ℕ → Status → Status → Seen → Seen → Type
 HandsOver text full now before after = Whole text full now before after ⊎ Cut text now before after
 
 -- a word is at fault: its line, and the source is unread
-pub record BadWord (i : ℕ) (now : Status) (source_before source_after : Told) (before after : Seen) : Type 0 where
+pub record BadWord {File : Type 0} (i : ℕ) (now : Status) (source_before source_after : Told) (before after : Seen) (dev_before dev_after : Back File) : Type 0 where
+  pub still : dev_after ≡ dev_before
   pub unread : source_after ≡ source_before
   pub over : HandsOver (word_line i) status.Words now before after
 
 -- the source failed, and nothing was taken
-pub record BadSource (now : Status) (source_before source_after : Told) (before after : Seen) : Type 0 where
+pub record BadSource {File : Type 0} (now : Status) (source_before source_after : Told) (before after : Seen) (dev_before dev_after : Back File) : Type 0 where
+  pub still : dev_after ≡ dev_before
   pub status : now ≡ status.SourceFault
   pub rose : Rose source_before.faults source_after.faults
   pub silent : after ≡ before
 
 -- want of memory before the first statement, and nothing was taken
-pub record NoMemory (now : Status) (source_before source_after : Told) (before after : Seen) : Type 0 where
+pub record NoMemory {File : Type 0} (now : Status) (source_before source_after : Told) (before after : Seen) (dev_before dev_after : Back File) : Type 0 where
+  pub still : dev_after ≡ dev_before
   pub status : now ≡ status.Memory
   pub calm : source_after.faults ≡ source_before.faults
   pub silent : after ≡ before
 
 -- the script has a fault: its line
-pub record BadScript (now : Status) (source_before source_after : Told) (before after : Seen) : Type 0 where
+pub record BadScript {File : Type 0} (now : Status) (source_before source_after : Told) (before after : Seen) (dev_before dev_after : Back File) : Type 0 where
+  pub still : dev_after ≡ dev_before
   pub name : FaultName
   pub byte : ℕ
   pub calm : source_after.faults ≡ source_before.faults
@@ -78,51 +84,56 @@ pub record BadScript (now : Status) (source_before source_after : Told) (before 
   pub over : HandsOver (fault_line name byte) status.Script now before after
 
 -- the report on a legal outcome of the script
-pub record Reported (max : ℕ) (now : Status) (source_before source_after : Told) (before after : Seen) : Type 0 where
+pub record Reported {File : Type 0} (tells : Bool) (max : ℕ) (now : Status) (source_before source_after : Told) (before after : Seen) (dev_before dev_after : Back File) : Type 0 where
   pub script : Script
   pub history : List Entry
   pub replies : List Reply
   pub calm : source_after.faults ≡ source_before.faults
   pub script_is : IfSome source_before.left (λ bytes. IsScript bytes script)
-  pub legal : Legal script max history (replies ∷ [])
+  pub legal : Legal script max tells history (replies ∷ [])
+  pub causes : AreCaused tells script history replies dev_before dev_after
   pub over : HandsOver (report_text script history (replies ∷ [])) (status_of replies) now before after
 
 -- the report on a script that was read: a legal outcome and its text; or want of memory before the first statement, and nothing was taken
-pub record ReportedOn (script : Script) (now : Status) (before after : Seen) : Type 0 where
+pub record ReportedOn {File : Type 0} (tells : Bool) (script : Script) (now : Status) (before after : Seen) (dev_before dev_after : Back File) : Type 0 where
   pub history : List Entry
   pub replies : List Reply
-  pub legal : (max : ℕ) → Legal script max history (replies ∷ [])
+  pub legal : (max : ℕ) → Legal script max tells history (replies ∷ [])
+  pub causes : AreCaused tells script history replies dev_before dev_after
   pub over : HandsOver (report_text script history (replies ∷ [])) (status_of replies) now before after
 
-pub record Silent (now : Status) (before after : Seen) : Type 0 where
+pub record Silent {File : Type 0} (now : Status) (before after : Seen) (dev_before dev_after : Back File) : Type 0 where
+  pub still : dev_after ≡ dev_before
   pub status : now ≡ status.Memory
   pub silent : after ≡ before
 
-abbrev pub ReportsOn : Script → Status → Seen → Seen → Type 0
-ReportsOn script now before after = Silent now before after ⊎ ReportedOn script now before after
+abbrev pub ReportsOn : {File : Type 0} → Bool → Script → Status → Seen → Seen → Back File → Back File → Type 0
+ReportsOn tells script now before after dev_before dev_after =
+    Silent now before after dev_before dev_after ⊎ ReportedOn tells script now before after dev_before dev_after
 
 -- what may become of a script
-abbrev pub Reads : ℕ → Status → Told → Told → Seen → Seen → Type 0
-Reads max now source_before source_after before after =
-    BadSource now source_before source_after before after ⊎ (NoMemory now source_before source_after before after
-    ⊎ (BadScript now source_before source_after before after ⊎ Reported max now source_before source_after before after))
+abbrev pub Reads : {File : Type 0} → Bool → ℕ → Status → Told → Told → Seen → Seen → Back File → Back File → Type 0
+Reads tells max now source_before source_after before after dev_before dev_after =
+    BadSource now source_before source_after before after dev_before dev_after ⊎ (NoMemory now source_before source_after before after dev_before dev_after
+    ⊎ (BadScript now source_before source_after before after dev_before dev_after ⊎ Reported tells max now source_before source_after before after dev_before dev_after))
 
--- what a run makes of its words, its source and its sink
-abbrev pub Answers : Result Options ℕ → Status → Told → Told → Seen → Seen → Type 0
-Answers (Err i) now source_before source_after before after = BadWord i now source_before source_after before after
-Answers (Ok chosen) now source_before source_after before after = Reads (max_of chosen) now source_before source_after before after
+-- what a run makes of its words, its source, its sink and its device, whose files tell what they hold or don't
+abbrev pub Answers : {File : Type 0} → Bool → Result Options ℕ → Status → Told → Told → Seen → Seen → Back File → Back File → Type 0
+Answers tells (Err i) now source_before source_after before after dev_before dev_after = BadWord i now source_before source_after before after dev_before dev_after
+Answers tells (Ok chosen) now source_before source_after before after dev_before dev_after = Reads tells (max_of chosen) now source_before source_after before after dev_before dev_after
 
 -- the statuses of a report that was taken whole
 abbrev pub IsReported : Status → Type 0
 IsReported now = (now ≡ status.Fine) ⊎ (now ≡ status.SomeFailed)
 
 -- the report that was taken: one history and one list of replies, legal for the script of these bytes, and the status that they have
-pub record TookReport (bytes : List ℕ) (max : ℕ) (now : Status) (before after : Seen) : Type 0 where
+pub record TookReport {File : Type 0} (tells : Bool) (bytes : List ℕ) (max : ℕ) (now : Status) (before after : Seen) (dev_before dev_after : Back File) : Type 0 where
   pub script : Script
   pub history : List Entry
   pub replies : List Reply
   pub script_is : IsScript bytes script
-  pub legal : Legal script max history (replies ∷ [])
+  pub legal : Legal script max tells history (replies ∷ [])
+  pub causes : AreCaused tells script history replies dev_before dev_after
   pub took : TookAll before (report_text script history (replies ∷ [])) after
   pub status : now ≡ status_of replies
 

@@ -1,7 +1,7 @@
 -- What each status of a run says: what its clauses name.
-use Rattle.std.specs.Prelude.{◌≡◌, ◌⊎◌, ℕ, ◌<◌, List, [], ◌∷◌, Result, Ok, Err}
+use Rattle.std.specs.Prelude.{◌≡◌, ◌⊎◌, ℕ, Bool, List, [], ◌∷◌, Result, Ok, Err}
 use Rattle.hv_io.specs.Bytes.{Seen}
-use Rattle.hv_io.specs.Counts.{MAX_COUNT}
+use Rattle.hv_dev.specs.Reading.{Back}
 use Rattle.hv_io.specs.Putting.{Stopped}
 use Rattle.hv_io.specs.declared.writing.PutAll.{PutAll}
 use Rattle.hv_model.specs.declared.script.Script.{Script}
@@ -16,13 +16,14 @@ use Rattle.hv_model.specs.Words.{max_of}
 use Rattle.oodb.specs.declared.status.Status.{Status}
 use Rattle.oodb.specs.declared.status.Status.TheVariants as status
 use Rattle.oodb.specs.Lines.{word_line, fault_line}
+use Rattle.oodb.specs.Causes.{IsCalm, AreCaused}
 use Rattle.oodb.specs.Outcome.{Told, HandsOver, BadSource, NoMemory, IsReported}
 
 -- a fault of these bytes is told: its line was handed over; or the source failed, or memory was wanting, before it was known
-abbrev pub TellsFault : List ℕ → Status → Told → Told → Seen → Seen → Type 0
-TellsFault bytes now source_before source_after before after = (name : FaultName) (byte : ℕ) → IsFault bytes name byte
+abbrev pub TellsFault : {File : Type 0} → List ℕ → Status → Told → Told → Seen → Seen → Back File → Back File → Type 0
+TellsFault bytes now source_before source_after before after dev_before dev_after = (name : FaultName) (byte : ℕ) → IsFault bytes name byte
     → HandsOver (fault_line name byte) status.Script now before after
-    ⊎ (BadSource now source_before source_after before after ⊎ NoMemory now source_before source_after before after)
+    ⊎ (BadSource now source_before source_after before after dev_before dev_after ⊎ NoMemory now source_before source_after before after dev_before dev_after)
 
 -- the line of a fault that these bytes have
 pub record IsFaultLine (bytes text : List ℕ) : Type 0 where
@@ -32,23 +33,24 @@ pub record IsFaultLine (bytes text : List ℕ) : Type 0 where
   pub is : text ≡ fault_line name byte
 
 -- the text of the report on a legal outcome of the script of these bytes
-pub record IsReport (bytes : List ℕ) (max : ℕ) (text : List ℕ) : Type 0 where
+pub record IsReport {File : Type 0} (tells : Bool) (bytes : List ℕ) (max : ℕ) (text : List ℕ) (dev_before dev_after : Back File) : Type 0 where
   pub script : Script
   pub history : List Entry
   pub replies : List Reply
   pub script_is : IsScript bytes script
-  pub legal : Legal script max history (replies ∷ [])
+  pub legal : Legal script max tells history (replies ∷ [])
+  pub causes : AreCaused tells script history replies dev_before dev_after
   pub is : text ≡ report_text script history (replies ∷ [])
 
 -- a text that a run with these words may write on these bytes
-abbrev pub MayWrite : Result Options ℕ → List ℕ → List ℕ → Type 0
-MayWrite (Err i) bytes text = text ≡ word_line i
-MayWrite (Ok chosen) bytes text = IsFaultLine bytes text ⊎ IsReport bytes (max_of chosen) text
+abbrev pub MayWrite : {File : Type 0} → Bool → Result Options ℕ → List ℕ → List ℕ → Back File → Back File → Type 0
+MayWrite tells (Err i) bytes text dev_before dev_after = text ≡ word_line i
+MayWrite tells (Ok chosen) bytes text dev_before dev_after = IsFaultLine bytes text ⊎ IsReport tells bytes (max_of chosen) text dev_before dev_after
 
 -- the sink took a prefix of such a text, and then it failed or took nothing
-pub record CutShort (chosen : Result Options ℕ) (bytes : List ℕ) (before after : Seen) : Type 0 where
+pub record CutShort {File : Type 0} (tells : Bool) (chosen : Result Options ℕ) (bytes : List ℕ) (before after : Seen) (dev_before dev_after : Back File) : Type 0 where
   pub text : List ℕ
-  pub may : MayWrite chosen bytes text
+  pub may : MayWrite tells chosen bytes text dev_before dev_after
   pub cause : PutAll
   pub stopped : Stopped before text after cause
 
@@ -60,11 +62,6 @@ IsNoScript bytes = (s : Script) → ¬ (IsScript bytes s)
 pub record SinkKept (before after : Seen) : Type 0 where
   pub faults : after.faults ≡ before.faults
   pub zeros : after.zeros ≡ before.zeros
-
--- a count that is below its end did not rise
-pub record IsCalm (before now : ℕ) : Type 0 where
-  pub same : now ≡ before
-  pub below : before < MAX_COUNT
 
 -- the sink told no fault, and could have told one
 pub record SinkCalm (before after : Seen) : Type 0 where

@@ -1,117 +1,148 @@
 // The answer to one statement.
 ghost use Rattle.hv_model.specs.declared.reply.Reply.TheVariants.{Done, Rows, Refused};
-ghost use Rattle.std.specs.Prelude.{◌≡◌, ◌<◌, ◌≤◌, ◌+◌, ℕ, [], ◌∷◌, ◌++◌, List, length, Some, None, IfOk, OnOk, OnErr, vec_len, vec_capacity};
+ghost use Rattle.hv_model.specs.declared.catalogue.Entry.{Entry};
+ghost use Rattle.std.specs.Prelude.{◌≡◌, ◌<◌, ◌≤◌, ◌+◌, ℕ, [], ◌∷◌, ◌++◌, List, length, true, Some, None, IfOk, IfErr, OnOk, OnErr, vec_len, vec_capacity};
 ghost use Rattle.hv_model.specs.Database.{most_entries};
-ghost use Rattle.hv_model.specs.Script.{most_bytes};
+ghost use Rattle.hv_model.specs.Script.{line_list};
 ghost use Rattle.hv_model.specs.Tree.{tree_of};
-ghost use Rattle.hv_model.specs.Command.{is_built, refusal};
+ghost use Rattle.hv_model.specs.Legal.{may_fail};
 ghost use Rattle.hv_model.specs.OneSession.{Settles};
 ghost use Rattle.hv_model.specs.declared.tree.Ast.TheVariants as tree;
-ghost use Rattle.oodb.specs.StoreFits.{RowsFit};
 ghost use Rattle.oodb.specs.Answer.{Keeps, IsImportOf, Imports};
+ghost use Rattle.oodb.specs.Stored.{database_of, IsSound};
+ghost use Rattle.oodb.specs.Reads.{port_seen, IsIdle, GoesOn};
+ghost use Rattle.oodb.specs.Damage.{FailedBy, RepliedBy, IsUnfailed};
+ghost use Rattle.oodb.specs.Imported.{IsUnbuilt};
 
-use crate::import::rows_of;
-use crate::store::{
-    create_refusal, create_table, import_refusal, import_rows, select_all, table_number,
-};
-use hv_model::{
-    Ast, Database, Detail, Entry, Failure, MAX_IMPORT_LINES, Refusal, Reply, Statement, tree_of,
-};
-use hv_row::{Bytes, Columns, Copied, Rows, Schema, is_schema};
+use crate::access::PageAccess;
+use crate::build::build_chunk;
+use crate::import::spells_rows;
+use crate::select::read_table;
+use crate::store::Store;
+use hv_dev::{PageFile, PageSink, Port};
+use hv_model::{Ast, Detail, Entry, Failure, MAX_IMPORT_LINES, Refusal, Reply, Statement, tree_of};
+use hv_row::{Bytes, Columns, Copied, Schema, is_schema};
+use hv_view::ChunkView;
 use std::alloc::{AllocError, Global};
 
-/// Answers a statement over the database, and adds its entry to the history where its command is accepted.
-/// Whatever memory the answer wants is taken before anything changes.
-pub fn answer(
+/// Answers a statement over the store, and adds its entry to the history where its command is accepted.
+/// Whatever memory the reply and the entry want is taken before anything changes.
+pub fn answer<P: Port>(
     alloc: Global,
     statement: &Statement,
-    database: &mut Database,
+    store: &mut Store<P::File>,
     history: &mut Vec<Entry>,
+    access: &mut PageAccess<P>,
 ) -> Reply
-    requires short { length statement.now.lines ≤ most_bytes }
-    requires fit { RowsFit database.old }
-    requires counted { database.old.length ≡ length history.old.items }
+    requires short { length (line_list statement.now.lines) ≤ 1000000 }
+    requires sound { IsSound P.File.tells P.File.pages store.old }
+    requires counted { store.old.length ≡ length history.old.items }
     requires room { length history.old.items < most_entries → vec_len history.old < vec_capacity history.old }
-    ensures settles { (max : ℕ) → Settles statement.now max database.old history.old.items result database.new history.new.items }
-    ensures fit { RowsFit database.new }
-    ensures counted { database.new.length ≡ length history.new.items }
+    requires idle { IsIdle (port_seen P.reading P.write_faults P.written access.old.port) }
+    ensures settles { (max : ℕ) → Settles statement.now max P.File.tells (database_of store.old) history.old.items result (database_of store.new) history.new.items }
+    ensures cause { RepliedBy P.File.tells (database_of store.old) (port_seen P.reading P.write_faults P.written access.old.port) (port_seen P.reading P.write_faults P.written access.new.port) result }
+    ensures goes_on { GoesOn (port_seen P.reading P.write_faults P.written access.old.port) (port_seen P.reading P.write_faults P.written access.new.port) }
+    ensures sound { IsSound P.File.tells P.File.pages store.new }
+    ensures counted { store.new.length ≡ length history.new.items }
     ensures room { vec_capacity history.old ≤ vec_capacity history.new }
 {
-    match try_answer(alloc, statement, database, history) {
+    match try_answer(alloc, statement, store, history, access) {
         Ok(reply) => reply,
-        Err(_) => Reply::Failed {
-            at: database.length,
-            cause: Failure::Memory,
+        Err(cause) => Reply::Failed {
+            at: store.length,
+            cause,
         },
     }
 }
 
-fn try_answer(
+fn try_answer<P: Port>(
     alloc: Global,
     statement: &Statement,
-    database: &mut Database,
+    store: &mut Store<P::File>,
     history: &mut Vec<Entry>,
-) -> Result<Reply, AllocError>
-    requires short { length statement.now.lines ≤ most_bytes }
-    requires fit { RowsFit database.old }
-    requires counted { database.old.length ≡ length history.old.items }
+    access: &mut PageAccess<P>,
+) -> Result<Reply, Failure>
+    requires short { length (line_list statement.now.lines) ≤ 1000000 }
+    requires sound { IsSound P.File.tells P.File.pages store.old }
+    requires counted { store.old.length ≡ length history.old.items }
     requires room { length history.old.items < most_entries → vec_len history.old < vec_capacity history.old }
-    ensures settles { IfOk result (λ reply. (max : ℕ) → Settles statement.now max database.old history.old.items reply database.new history.new.items) }
-    ensures keeps { OnErr result (Keeps database.old database.new history.old.items history.new.items) }
-    ensures fit { RowsFit database.new }
-    ensures counted { database.new.length ≡ length history.new.items }
+    requires idle { IsIdle (port_seen P.reading P.write_faults P.written access.old.port) }
+    ensures settles { IfOk result (λ reply. (max : ℕ) → Settles statement.now max P.File.tells (database_of store.old) history.old.items reply (database_of store.new) history.new.items) }
+    ensures unfailed { IfOk result (λ reply. IsUnfailed reply) }
+    ensures may { IfErr result (λ cause. may_fail (tree_of statement.now.text) cause ≡ true) }
+    ensures cause { IfErr result (λ cause. FailedBy P.File.tells (database_of store.old) (port_seen P.reading P.write_faults P.written access.old.port) (port_seen P.reading P.write_faults P.written access.new.port) cause) }
+    ensures keeps { OnErr result (Keeps (database_of store.old) (database_of store.new) history.old.items history.new.items) }
+    ensures goes_on { GoesOn (port_seen P.reading P.write_faults P.written access.old.port) (port_seen P.reading P.write_faults P.written access.new.port) }
+    ensures sound { IsSound P.File.tells P.File.pages store.new }
+    ensures counted { store.new.length ≡ length history.new.items }
     ensures room { vec_capacity history.old ≤ vec_capacity history.new }
 {
     match tree_of(alloc, statement.text.as_slice())? {
-        None => Ok(unbuilt(database)),
-        Some(Ast::Create { table, columns }) => create(
-            alloc, statement, table, columns, database, history,
-        ),
+        None => Ok(unbuilt(store)),
+        Some(Ast::Create { table, columns }) => Ok(create(
+            alloc, statement, table, columns, store, history,
+        )?),
         Some(Ast::Import { table, lines }) => import(
-            alloc, statement, table, lines, database, history,
+            alloc,
+            statement,
+            table,
+            lines,
+            store,
+            history,
+            &mut access.port,
         ),
-        Some(Ast::SelectAll { table }) => select(alloc, statement, table, database),
+        Some(Ast::SelectAll { table }) => select(alloc, statement, table, store, access),
     }
 }
 
 // The refusal of a statement that isn't built.
-fn unbuilt(database: &Database) -> Reply
-    ensures { result ≡ Reply.Refused database.now.length Refusal.Unbuilt }
+fn unbuilt<F: PageFile>(store: &Store<F>) -> Reply
+    ensures { result ≡ Reply.Refused store.now.length Refusal.Unbuilt }
 {
     Reply::Refused {
-        at: database.length,
+        at: store.length,
         cause: Refusal::Unbuilt,
     }
 }
 
-// The reply to a command that the database has accepted.
-fn done(database: &Database, what: Detail) -> Reply
-    ensures { result ≡ Done database.now.length what }
+// The reply to a command that was accepted.
+fn done<F: PageFile>(store: &Store<F>, what: Detail) -> Reply
+    ensures { result ≡ Done store.now.length what }
 {
-    let at = database.length;
+    let at = store.length;
     Reply::Done { at, what }
 }
 
-fn create(
+// Adds an entry to the history, which has room for it.
+fn commit(history: &mut Vec<Entry>, entry: Entry)
+    requires { vec_len history.old < vec_capacity history.old }
+    ensures longer { history.new.items ≡ history.old.items ++ entry ∷ [] }
+    ensures room { vec_capacity history.old ≤ vec_capacity history.new }
+{
+    history.push_reserved(entry);
+}
+
+fn create<F: PageFile>(
     alloc: Global,
     statement: &Statement,
     table: Bytes,
     columns: Columns,
-    database: &mut Database,
+    store: &mut Store<F>,
     history: &mut Vec<Entry>,
 ) -> Result<Reply, AllocError>
     requires is { tree_of statement.now.text ≡ Some (tree.Create table columns) }
-    requires fit { RowsFit database.old }
-    requires counted { database.old.length ≡ length history.old.items }
+    requires sound { IsSound F.tells F.pages store.old }
+    requires counted { store.old.length ≡ length history.old.items }
     requires room { length history.old.items < most_entries → vec_len history.old < vec_capacity history.old }
-    ensures settles { IfOk result (λ reply. (max : ℕ) → Settles statement.now max database.old history.old.items reply database.new history.new.items) }
-    ensures keeps { OnErr result (Keeps database.old database.new history.old.items history.new.items) }
-    ensures fit { RowsFit database.new }
-    ensures counted { database.new.length ≡ length history.new.items }
+    ensures settles { IfOk result (λ reply. (max : ℕ) → Settles statement.now max F.tells (database_of store.old) history.old.items reply (database_of store.new) history.new.items) }
+    ensures unfailed { IfOk result (λ reply. IsUnfailed reply) }
+    ensures keeps { OnErr result (Keeps (database_of store.old) (database_of store.new) history.old.items history.new.items) }
+    ensures sound { IsSound F.tells F.pages store.new }
+    ensures counted { store.new.length ≡ length history.new.items }
     ensures room { vec_capacity history.old ≤ vec_capacity history.new }
 {
-    if !is_schema(columns.as_slice()) || create_refusal(database, &table).is_some() {
-        return Ok(unbuilt(database));
+    if !is_schema(columns.as_slice()) || store.create_refusal(&table).is_some() {
+        return Ok(unbuilt(store));
     }
     let what = Detail::Create {
         table: table.copy(alloc)?,
@@ -123,129 +154,142 @@ fn create(
             table: table.copy(alloc)?,
         },
     };
-    create_table(alloc, database, table, Schema::new(columns))?;
+    store.create_table(alloc, table, Schema::new(columns))?;
     commit(history, entry);
-    Ok(done(database, what))
+    Ok(done(store, what))
 }
 
-// Adds an entry to the history, which has room for it.
-fn commit(history: &mut Vec<Entry>, entry: Entry)
-    requires { vec_len history.old < vec_capacity history.old }
-    ensures longer { history.new.items ≡ history.old.items ++ entry ∷ [] }
-    ensures room { vec_capacity history.old ≤ vec_capacity history.new }
-{
-    let _ = history.push(entry);
-}
-
-fn import(
+fn import<P: PageSink>(
     alloc: Global,
     statement: &Statement,
     table: Bytes,
     lines: u32,
-    database: &mut Database,
+    store: &mut Store<P::File>,
     history: &mut Vec<Entry>,
-) -> Result<Reply, AllocError>
+    port: &mut P,
+) -> Result<Reply, Failure>
     requires is { tree_of statement.now.text ≡ Some (tree.Import table lines) }
-    requires short { length statement.now.lines ≤ most_bytes }
-    requires fit { RowsFit database.old }
-    requires counted { database.old.length ≡ length history.old.items }
+    requires short { length (line_list statement.now.lines) ≤ 1000000 }
+    requires sound { IsSound P.File.tells P.File.pages store.old }
+    requires counted { store.old.length ≡ length history.old.items }
     requires room { length history.old.items < most_entries → vec_len history.old < vec_capacity history.old }
-    ensures settles { IfOk result (λ reply. (max : ℕ) → Settles statement.now max database.old history.old.items reply database.new history.new.items) }
-    ensures keeps { OnErr result (Keeps database.old database.new history.old.items history.new.items) }
-    ensures fit { RowsFit database.new }
-    ensures counted { database.new.length ≡ length history.new.items }
+    requires empty { P.written port.old ≡ Some [] }
+    ensures settles { IfOk result (λ reply. (max : ℕ) → Settles statement.now max P.File.tells (database_of store.old) history.old.items reply (database_of store.new) history.new.items) }
+    ensures unfailed { IfOk result (λ reply. IsUnfailed reply) }
+    ensures calm { OnOk result (P.write_faults port.new ≡ P.write_faults port.old) }
+    ensures cause { IfErr result (λ failure. IsUnbuilt failure (P.write_faults port.old) (P.write_faults port.new)) }
+    ensures keeps { OnErr result (Keeps (database_of store.old) (database_of store.new) history.old.items history.new.items) }
+    ensures empty { P.written port.new ≡ Some [] }
+    ensures kept { P.reading port.new ≡ P.reading port.old }
+    ensures sound { IsSound P.File.tells P.File.pages store.new }
+    ensures counted { store.new.length ≡ length history.new.items }
     ensures room { vec_capacity history.old ≤ vec_capacity history.new }
 {
-    match import_of(alloc, statement, &table, lines, database)? {
-        None => Ok(unbuilt(database)),
-        Some((at, rows)) => add_chunk(alloc, statement, table, at, rows, database, history),
+    match import_of(alloc, statement, &table, lines, store)? {
+        None => Ok(unbuilt(store)),
+        Some(at) => add_chunk(alloc, statement, table, at, store, history, port),
     }
 }
 
-// The table and the rows of an import, where the database accepts it.
-fn import_of(
+// The number of the table of an import, where its command is accepted.
+fn import_of<F: PageFile>(
     alloc: Global,
     statement: &Statement,
     table: &Bytes,
     lines: u32,
-    database: &Database,
-) -> Result<Option<(usize, Rows)>, AllocError>
+    store: &Store<F>,
+) -> Result<Option<usize>, AllocError>
     requires is { tree_of statement.now.text ≡ Some (tree.Import table.now lines) }
-    ensures { IfOk result (λ found. IsImportOf statement.now table.now database.now found) }
+    ensures { IfOk result (λ found. IsImportOf statement.now table.now (database_of store.now) found) }
 {
     if lines > MAX_IMPORT_LINES {
         return Ok(None);
     }
-    let Some(at) = table_number(database, table) else {
+    let Some(at) = store.table_number(table) else {
         return Ok(None);
     };
-    let target = &database.tables.as_slice()[at];
-    let Some(rows) = rows_of(alloc, &target.schema, statement.lines.as_slice())? else {
-        return Ok(None);
-    };
-    if import_refusal(target, database).is_some() {
+    let schema = &store.tables[at].schema;
+    if !spells_rows(alloc, schema, statement.lines.as_slice())? {
         return Ok(None);
     }
-    Ok(Some((at, rows)))
+    if store.import_refusal(at).is_some() {
+        return Ok(None);
+    }
+    Ok(Some(at))
 }
 
 // The rows of an import become the last chunk of its table.
-fn add_chunk(
+fn add_chunk<P: PageSink>(
     alloc: Global,
     statement: &Statement,
     table: Bytes,
     at: usize,
-    rows: Rows,
-    database: &mut Database,
+    store: &mut Store<P::File>,
     history: &mut Vec<Entry>,
-) -> Result<Reply, AllocError>
-    requires imports { Imports statement.now table database.old at rows }
-    requires short { length statement.now.lines ≤ most_bytes }
-    requires fit { RowsFit database.old }
-    requires counted { database.old.length ≡ length history.old.items }
+    port: &mut P,
+) -> Result<Reply, Failure>
+    requires imports { Imports statement.now table (database_of store.old) at }
+    requires short { length (line_list statement.now.lines) ≤ 1000000 }
+    requires sound { IsSound P.File.tells P.File.pages store.old }
+    requires counted { store.old.length ≡ length history.old.items }
     requires room { length history.old.items < most_entries → vec_len history.old < vec_capacity history.old }
-    ensures settles { IfOk result (λ reply. (max : ℕ) → Settles statement.now max database.old history.old.items reply database.new history.new.items) }
-    ensures keeps { OnErr result (Keeps database.old database.new history.old.items history.new.items) }
-    ensures fit { RowsFit database.new }
-    ensures counted { database.new.length ≡ length history.new.items }
+    requires empty { P.written port.old ≡ Some [] }
+    ensures settles { IfOk result (λ reply. (max : ℕ) → Settles statement.now max P.File.tells (database_of store.old) history.old.items reply (database_of store.new) history.new.items) }
+    ensures unfailed { IfOk result (λ reply. IsUnfailed reply) }
+    ensures calm { OnOk result (P.write_faults port.new ≡ P.write_faults port.old) }
+    ensures cause { IfErr result (λ failure. IsUnbuilt failure (P.write_faults port.old) (P.write_faults port.new)) }
+    ensures keeps { OnErr result (Keeps (database_of store.old) (database_of store.new) history.old.items history.new.items) }
+    ensures empty { P.written port.new ≡ Some [] }
+    ensures kept { P.reading port.new ≡ P.reading port.old }
+    ensures sound { IsSound P.File.tells P.File.pages store.new }
+    ensures counted { store.new.length ≡ length history.new.items }
     ensures room { vec_capacity history.old ≤ vec_capacity history.new }
 {
-    let (chunk, count) = (database.made + 1, rows.len() as u32);
-    let what = Detail::Import {
-        table: table.copy(alloc)?,
-        chunk,
-        rows: count,
-    };
-    let entry = Entry {
-        session: statement.session.copy(alloc)?,
-        number: statement.number,
-        what: Detail::Import {
-            table,
-            chunk,
-            rows: count,
+    let name = table.copy(alloc)?;
+    let session = statement.session.copy(alloc)?;
+    store.reserve(at)?;
+    let schema = &store.tables[at].schema;
+    let chunk = build_chunk(alloc, schema, statement.lines.as_slice(), port)?;
+    let rows = chunk.row_count();
+    store.add_chunk(at, chunk);
+    let chunk = store.made;
+    commit(
+        history,
+        Entry {
+            session,
+            number: statement.number,
+            what: Detail::Import {
+                table: name,
+                chunk,
+                rows,
+            },
         },
-    };
-    import_rows(alloc, database, at, rows)?;
-    commit(history, entry);
-    Ok(done(database, what))
+    );
+    Ok(done(store, Detail::Import { table, chunk, rows }))
 }
 
 // The rows of `SELECT *`.
-fn select(
+fn select<P: Port>(
     alloc: Global,
     statement: &Statement,
     table: Bytes,
-    database: &Database,
-) -> Result<Reply, AllocError>
+    store: &Store<P::File>,
+    access: &mut PageAccess<P>,
+) -> Result<Reply, Failure>
     requires is { tree_of statement.now.text ≡ Some (tree.SelectAll table) }
-    requires fit { RowsFit database.now }
-    ensures { IfOk result (λ reply. (max : ℕ) (history : List Entry) → length history ≡ database.now.length → Settles statement.now max database.now history reply database.now history) }
+    requires sound { IsSound P.File.tells P.File.pages store.now }
+    requires idle { IsIdle (port_seen P.reading P.write_faults P.written access.old.port) }
+    ensures settles { IfOk result (λ reply. (max : ℕ) (history : List Entry) → length history ≡ store.now.length → Settles statement.now max P.File.tells (database_of store.now) history reply (database_of store.now) history) }
+    ensures unfailed { IfOk result (λ reply. IsUnfailed reply) }
+    ensures may { IfErr result (λ cause. may_fail (tree_of statement.now.text) cause ≡ true) }
+    ensures cause { IfErr result (λ cause. FailedBy P.File.tells (database_of store.now) (port_seen P.reading P.write_faults P.written access.old.port) (port_seen P.reading P.write_faults P.written access.new.port) cause) }
+    ensures goes_on { GoesOn (port_seen P.reading P.write_faults P.written access.old.port) (port_seen P.reading P.write_faults P.written access.new.port) }
 {
-    let Some(at) = table_number(database, &table) else {
-        return Ok(unbuilt(database));
+    let Some(at) = store.table_number(&table) else {
+        return Ok(unbuilt(store));
     };
     Ok(Reply::Rows {
-        at: database.length,
-        rows: select_all(alloc, database, at)?,
+        at: store.length,
+        rows: read_table(alloc, store, at, access)?,
     })
 }

@@ -3,12 +3,16 @@ ghost use Rattle.std.specs.Prelude.{◌≡◌, ◌<◌, ◌≤◌, ℕ, [], ◌�
 ghost use Rattle.hv_model.specs.Database.{most_entries};
 ghost use Rattle.hv_model.specs.Legal.{Legal};
 ghost use Rattle.hv_model.specs.OneSession.{IsOneSession};
-ghost use Rattle.hv_model.specs.Script.{most_bytes};
+ghost use Rattle.hv_model.specs.Script.{line_list};
 ghost use Rattle.hv_model.specs.declared.script.Statement.{Statement};
 ghost use Rattle.hv_script.specs.Script.{HasOneSession};
+ghost use Rattle.oodb.specs.Reads.{port_seen, fresh_port};
+ghost use Rattle.oodb.specs.Causes.{CausedSoFar};
 
+use crate::access::PageAccess;
 use crate::answer::answer;
-use crate::store::{MAX_ENTRIES, new_database};
+use crate::store::{MAX_ENTRIES, Store};
+use hv_dev::Port;
 use hv_model::{Entry, Reply, Script, Statement};
 use std::alloc::{AllocError, Global};
 
@@ -37,7 +41,7 @@ impl Outcome {
 pub fn statements(script: &Script) -> &[Statement]
     requires { HasOneSession script.now }
     ensures one { IsOneSession script.now result.now }
-    ensures short { (k : ℕ) (x : Statement) → slice_get result.now k ≡ Some x → length x.lines ≤ most_bytes }
+    ensures short { (k : ℕ) (x : Statement) → slice_get result.now k ≡ Some x → length (line_list x.lines) ≤ 1000000 }
 {
     match script.phases.as_slice() {
         [phase, ..] => phase.as_slice(),
@@ -45,24 +49,32 @@ pub fn statements(script: &Script) -> &[Statement]
     }
 }
 
-/// Answers each statement of the script over the database that those before it left.
-pub fn answer_all(alloc: Global, script: &Script, phase: &[Statement], outcome: Outcome) -> Outcome
+/// Answers each statement of the script over the store that those before it left. The port is fresh: all that it counts is of these answers.
+pub fn answer_all<P: Port>(
+    alloc: Global,
+    script: &Script,
+    phase: &[Statement],
+    outcome: Outcome,
+    access: &mut PageAccess<P>,
+) -> Outcome
     requires one { IsOneSession script.now phase.now }
-    requires short { (k : ℕ) (x : Statement) → slice_get phase.now k ≡ Some x → length x.lines ≤ most_bytes }
+    requires short { (k : ℕ) (x : Statement) → slice_get phase.now k ≡ Some x → length (line_list x.lines) ≤ 1000000 }
+    requires fresh { port_seen P.reading P.write_faults P.written access.old.port ≡ fresh_port P.File }
     requires no_entry { outcome.history.items ≡ [] }
     requires no_reply { outcome.replies.items ≡ [] }
     requires entries { min (length phase.now) most_entries ≤ vec_capacity outcome.history }
     requires replies { length phase.now ≤ vec_capacity outcome.replies }
-    ensures { (max : ℕ) → Legal script.now max result.history.items (result.replies.items ∷ []) }
+    ensures legal { (max : ℕ) → Legal script.now max P.File.tells result.history.items (result.replies.items ∷ []) }
+    ensures causes { CausedSoFar P.File.tells script.now result.history.items result.replies.items (port_seen P.reading P.write_faults P.written access.new.port) }
 {
-    let mut database = new_database(alloc);
+    let mut store = Store::new(alloc);
     let Outcome {
         mut history,
         mut replies,
     } = outcome;
     for statement in phase {
-        let reply = answer(alloc, statement, &mut database, &mut history);
-        let _ = replies.push(reply);
+        let reply = answer(alloc, statement, &mut store, &mut history, access);
+        replies.push_reserved(reply);
     }
     Outcome { history, replies }
 }

@@ -1,5 +1,5 @@
 // The rows that the data of an import spells: one a line, its fields cut at commas, and nothing quoted.
-ghost use Rattle.std.specs.Prelude.{◌≡◌, ◌≤◌, ◌==◌, ◌++◌, ◌∷◌, not, true, length, All, IfOk, IfSome, MatchOption, SomeIff};
+ghost use Rattle.std.specs.Prelude.{◌≡◌, ◌<◌, ◌≤◌, ◌==◌, ◌++◌, ◌∷◌, not, true, is_some, length, IfOk, IfSome, MatchOption, SomeIff};
 ghost use Rattle.std.specs.List.{list_all};
 ghost use Rattle.std.specs.Str.Parse.{signed_digits_value};
 ghost use Rattle.hv_row.specs.Row.{RowFits};
@@ -7,20 +7,29 @@ ghost use Rattle.hv_model.specs.Import.{is_plain_byte, is_integer, field_value, 
 ghost use Rattle.hv_model.specs.Script.{line_list};
 
 use hv_row::{
-    Bytes, ColType, Column, MAX_ROW_BYTES, MAX_TEXT_BYTES, Row, Rows, Schema, Value, row_length,
+    Bytes, ColType, Column, MAX_ROW_BYTES, MAX_TEXT_BYTES, Row, Schema, Value, row_length,
 };
 use std::alloc::{AllocError, Global};
 
-/// The rows that an import's data spells under a schema, one a line; `None` where a line spells none.
-pub fn rows_of(alloc: Global, schema: &Schema, bytes: &[u8]) -> Result<Option<Rows>, AllocError>
-    ensures rows { IfOk result (λ rows. rows ≡ rows_of schema.now bytes.now) }
-    ensures fit { IfOk result (λ rows. IfSome rows (All (RowFits schema.now))) }
-    ensures count { IfOk result (λ rows. IfSome rows (λ found. length found ≡ length (line_list bytes.now))) }
+/// Whether an import's data spells rows under a schema, one a line.
+pub fn spells_rows(alloc: Global, schema: &Schema, bytes: &[u8]) -> Result<bool, AllocError>
+    ensures { IfOk result (λ spells. spells ≡ is_some (rows_of schema.now bytes.now)) }
 {
     if !are_plain(bytes) {
-        return Ok(None);
+        return Ok(false);
     }
-    rows_of_lines(alloc, schema.columns(), bytes)
+    are_rows(alloc, schema.columns(), bytes)
+}
+
+/// The first line of an import's data, without its line feed, and what stands behind it.
+pub fn next_line(bytes: &[u8]) -> (&[u8], &[u8])
+    requires { 0 < length bytes.now }
+    ensures lines { line_list bytes.now ≡ result.0.now ∷ line_list result.1.now }
+    ensures plain { list_all is_plain_byte bytes.now ≡ true → (list_all is_plain_byte result.0.now ≡ true) × (list_all is_plain_byte result.1.now ≡ true) }
+    ensures shorter { length result.1.now < length bytes.now }
+{
+    let (line, behind) = cut_at(bytes, b'\n');
+    (line, behind.unwrap_or(b""))
 }
 
 // Whether all bytes are plain, so that each line stands as it is written.
@@ -37,32 +46,25 @@ fn is_plain_byte(byte: u8) -> bool
     byte < 128 && byte != b'"' && byte != b'\r'
 }
 
-// The rows of the lines of plain bytes.
-fn rows_of_lines(
-    alloc: Global,
-    columns: &[Column],
-    bytes: &[u8],
-) -> Result<Option<Rows>, AllocError>
+// Whether each line of plain bytes spells a row.
+fn are_rows(alloc: Global, columns: &[Column], bytes: &[u8]) -> Result<bool, AllocError>
     requires plain { list_all is_plain_byte bytes.now ≡ true }
     requires few { length columns.now ≤ 32 }
-    ensures rows { IfOk result (λ rows. rows ≡ rows_of_lines columns.now (line_list bytes.now)) }
-    ensures fit { IfOk result (λ rows. IfSome rows (All (RowFits columns.now))) }
+    ensures { IfOk result (λ are. are ≡ is_some (rows_of_lines columns.now (line_list bytes.now))) }
 {
-    let mut rows = Rows::new(alloc);
     let mut rest = bytes;
     while !rest.is_empty() {
-        let (line, behind) = cut_at(rest, b'\n');
-        let Some(row) = row_of(alloc, columns, line)? else {
-            return Ok(None);
-        };
-        rows.push(row)?;
-        rest = behind.unwrap_or(b"");
+        let (line, behind) = next_line(rest);
+        if row_of(alloc, columns, line)?.is_none() {
+            return Ok(false);
+        }
+        rest = behind;
     }
-    Ok(Some(rows))
+    Ok(true)
 }
 
-// The row that a line of plain bytes spells.
-fn row_of(alloc: Global, columns: &[Column], line: &[u8]) -> Result<Option<Row>, AllocError>
+/// The row that a line of plain bytes spells.
+pub fn row_of(alloc: Global, columns: &[Column], line: &[u8]) -> Result<Option<Row>, AllocError>
     requires plain { list_all is_plain_byte line.now ≡ true }
     requires few { length columns.now ≤ 32 }
     ensures row { IfOk result (λ row. row ≡ row_of columns.now line.now) }
@@ -145,7 +147,7 @@ fn cut_at(bytes: &[u8], mark: u8) -> (&[u8], Option<&[u8]>)
 #[cfg(test)]
 mod tests {
     use super::*;
-    use hv_row::{Columns, is_schema};
+    use hv_row::{Columns, Rows, is_schema};
     use std::test::Fail;
 
     // The columns `id INT, name TEXT`.
@@ -174,6 +176,27 @@ mod tests {
             expected.push(row)?;
         }
         Ok(expected)
+    }
+
+    // The rows of data that spells rows.
+    fn rows_of(alloc: Global, schema: &Schema, bytes: &[u8]) -> Result<Option<Rows>, Fail> {
+        if !spells_rows(alloc, schema, bytes)? {
+            return Ok(None);
+        }
+        let mut found = Rows::new(alloc);
+        let mut rest = bytes;
+        while !rest.is_empty() {
+            let (line, behind) = next_line(rest);
+            if !are_plain(line) {
+                return Ok(None);
+            }
+            let Some(row) = row_of(alloc, schema.columns(), line)? else {
+                return Ok(None);
+            };
+            found.push(row)?;
+            rest = behind;
+        }
+        Ok(Some(found))
     }
 
     #[test]

@@ -1,20 +1,25 @@
 //! `oodb`: reads a script of statements and writes a report of their replies and of one history of the catalogue's commands.
-//! The contract of `run` says what the report is; `main` hands it the standard input and output.
+//! The contract of `run` says what the report is; `main` hands it the standard input and output, and page files in the folder `oodb.data`.
 #![tactic(auto)]
 
+mod access;
 mod answer;
 mod answers;
+mod build;
 mod import;
 mod law;
 mod lines;
 mod memory;
+mod pages;
 mod report;
 mod run;
+mod select;
 mod status;
 mod store;
 #[cfg(test)]
 mod tests;
 
+use hv_dev::FileDevice;
 use hv_io::{StdSink, StdSource};
 use hv_row::Bytes;
 pub use law::legal_is_met_and_missed;
@@ -33,7 +38,25 @@ fn main(rt: HostRuntime) -> ExitCode {
     };
     let mut script = StdSource::new(rt.reader());
     let mut out = StdSink::new(writer(&rt));
-    ExitCode::from(run(rt.alloc(), words.as_slice(), &mut script, &mut out).code())
+    let Ok(mut device) = device_in(rt, FOLDER) else {
+        return ExitCode::from(Status::Memory.code());
+    };
+    let status = run(
+        rt.alloc(),
+        words.as_slice(),
+        &mut script,
+        &mut out,
+        &mut device,
+    );
+    ExitCode::from(status.code())
+}
+
+// The folder of the page files, in the folder in which the program runs.
+const FOLDER: &[u8] = b"oodb.data";
+
+// The device of that folder.
+fn device_in(rt: HostRuntime, folder: &[u8]) -> Result<FileDevice<HostRuntime>, AllocError> {
+    FileDevice::new(rt.alloc(), rt, folder.to_vec(rt.alloc())?)
 }
 
 // The words behind the program's name. Arguments that aren't all text are taken as none, so that the first word is at fault.

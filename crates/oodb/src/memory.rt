@@ -9,6 +9,7 @@ ghost use Rattle.oodb.specs.declared.status.Status.TheVariants as status;
 
 use crate::run::run;
 use crate::status::Status;
+use hv_dev::CleanDevice;
 use hv_io::{Failed, MemSink, Source};
 use hv_row::Bytes;
 use std::alloc::{AllocError, Global};
@@ -52,7 +53,7 @@ impl Source for WholeSource {
     }
 }
 
-/// Runs a script that is given as bytes, and gives the report as bytes. `Err` is want of memory: before the first statement, or for the report's bytes.
+/// Runs a script that is given as bytes over files in memory, and gives the report as bytes. `Err` is want of memory: before the first statement, or for the report's bytes.
 pub fn run_in_memory(
     alloc: Global,
     words: &[Bytes],
@@ -68,7 +69,8 @@ pub fn run_in_memory(
 {
     let mut source = WholeSource::new(script);
     let mut out = MemSink::new(alloc, PIECE_BYTES, None);
-    match run(alloc, words, &mut source, &mut out) {
+    let mut device = CleanDevice::new();
+    match run(alloc, words, &mut source, &mut out, &mut device) {
         Status::SinkFault | Status::Memory => Err(AllocError),
         status => Ok(InMemory {
             status,

@@ -111,6 +111,18 @@ fn print_failure<K: Sink>(printer: &mut Printer, out: &mut K, cause: Failure)
     ensures { Prints (failure_text cause) (seen K.taken K.faults K.zeros out.old) printer.old (seen K.taken K.faults K.zeros out.new) printer.new }
 {
     match cause {
+        Failure::Read => printer.put(out, b"read"),
+        Failure::Write => printer.put(out, b"write"),
+        Failure::Damaged {
+            chunk,
+            page,
+            why: _,
+        } => {
+            printer.put(out, b"damaged ");
+            print_number(printer, out, chunk);
+            printer.put(out, b" ");
+            print_number(printer, out, page);
+        }
         Failure::Memory => printer.put(out, b"memory"),
     }
 }

@@ -1,6 +1,6 @@
 // The top call.
 ghost use Rattle.std.specs.List.{list_any};
-ghost use Rattle.std.specs.Prelude.{◌≡◌, false, ◌⊎◌, ℕ, List, [], ◌∷◌, Ok, Err, IsOk, IfSome, IfOk, OnOk, IfErr};
+ghost use Rattle.std.specs.Prelude.{◌≡◌, false, ◌⊎◌, ℕ, List, [], ◌∷◌, Ok, Err, IsOk, IfSome, IfOk, OnOk, OnErr, IfErr};
 ghost use Rattle.hv_io.specs.Bytes.{Seen, seen};
 ghost use Rattle.hv_io.specs.Counts.{Rose};
 ghost use Rattle.hv_io.specs.Putting.{TookAll, Stopped};
@@ -8,82 +8,95 @@ ghost use Rattle.hv_model.specs.Words.{options, max_of};
 ghost use Rattle.hv_model.specs.Script.{IsScript, IsFault};
 ghost use Rattle.oodb.specs.Lines.{Handed, word_line, fault_line};
 ghost use Rattle.oodb.specs.Outcome.{told, Answers, Reads, HandsOver, IsReported, TookReport, TookWordLine, TookFaultLine, SinkRose, max_of_words, status_of, is_failed, ReportsOn};
-ghost use Rattle.oodb.specs.Statuses.{TellsFault, CutShort, SinkKept, IsNoScript, IsCalm, SinkCalm, IsAnswered};
+ghost use Rattle.hv_dev.specs.Reading.{went};
+ghost use Rattle.oodb.specs.Reads.{port_seen, fresh_port};
+ghost use Rattle.oodb.specs.Causes.{DeviceKept, IsCalm};
+ghost use Rattle.oodb.specs.Statuses.{TellsFault, CutShort, SinkKept, IsNoScript, SinkCalm, IsAnswered};
 ghost use Rattle.hv_io.specs.Printing.{blank};
 ghost use Rattle.hv_model.specs.Report.{report_text};
 ghost use Rattle.hv_script.specs.Script.{HasOneSession};
 ghost use Rattle.oodb.specs.declared.status.Status.TheVariants as status;
 
+use crate::access::PageAccess;
 use crate::answers::{Outcome, answer_all, statements};
 use crate::lines::{put_fault_line, put_word_line};
 use crate::report::print_report;
 use crate::status::Status;
+use hv_dev::{Device, Order};
+use hv_frames::make;
 use hv_io::{Printer, PutAll, Sink, Source};
 use hv_model::{Options, Reply, Script};
 use hv_row::{Bytes, Listed};
 use hv_script::{ReadScriptFault, read_script, read_words};
-use std::alloc::Global;
+use std::alloc::{AllocError, Global};
 
-/// Reads the words and the script, answers the script's statements, and writes the report.
-pub fn run<S: Source, K: Sink>(
+/// Reads the words and the script, answers the script's statements over files of the device, and writes the report.
+/// It uses one port with room for one read, and one frame; the port comes back.
+pub fn run<S: Source, K: Sink, D: Device>(
     alloc: Global,
     words: &[Bytes],
     script: &mut S,
     out: &mut K,
+    dev: &mut D,
 ) -> Status
-    ensures outcome { Answers (options false words.now) result (told S.left S.faults script.old) (told S.left S.faults script.new) (seen K.taken K.faults K.zeros out.old) (seen K.taken K.faults K.zeros out.new) }
-    ensures report { IsReported result → IfSome (S.left script.old) (λ bytes. TookReport bytes (max_of_words (options false words.now)) result (seen K.taken K.faults K.zeros out.old) (seen K.taken K.faults K.zeros out.new)) }
+    ensures outcome { Answers D.Port.File.tells (options false words.now) result (told S.left S.faults script.old) (told S.left S.faults script.new) (seen K.taken K.faults K.zeros out.old) (seen K.taken K.faults K.zeros out.new) (D.returned dev.old) (D.returned dev.new) }
+    ensures report { IsReported result → IfSome (S.left script.old) (λ bytes. TookReport D.Port.File.tells bytes (max_of_words (options false words.now)) result (seen K.taken K.faults K.zeros out.old) (seen K.taken K.faults K.zeros out.new) (D.returned dev.old) (D.returned dev.new)) }
     ensures words_line { result ≡ status.Words → TookWordLine (options false words.now) (seen K.taken K.faults K.zeros out.old) (seen K.taken K.faults K.zeros out.new) }
     ensures words { IfErr (options false words.now) (λ i. (told S.left S.faults script.new ≡ told S.left S.faults script.old) × ((result ≡ status.Words) ⊎ (result ≡ status.SinkFault))) }
     ensures script_line { result ≡ status.Script → IfSome (S.left script.old) (λ bytes. TookFaultLine bytes (seen K.taken K.faults K.zeros out.old) (seen K.taken K.faults K.zeros out.new)) }
-    ensures script { IsOk (options false words.now) → IfSome (S.left script.old) (λ bytes. TellsFault bytes result (told S.left S.faults script.old) (told S.left S.faults script.new) (seen K.taken K.faults K.zeros out.old) (seen K.taken K.faults K.zeros out.new)) }
+    ensures script { IsOk (options false words.now) → IfSome (S.left script.old) (λ bytes. TellsFault bytes result (told S.left S.faults script.old) (told S.left S.faults script.new) (seen K.taken K.faults K.zeros out.old) (seen K.taken K.faults K.zeros out.new) (D.returned dev.old) (D.returned dev.new)) }
     ensures no_script { result ≡ status.Script → IfSome (S.left script.old) (λ bytes. IsNoScript bytes) }
     ensures source { result ≡ status.SourceFault → Rose (S.faults script.old) (S.faults script.new) × (seen K.taken K.faults K.zeros out.new ≡ seen K.taken K.faults K.zeros out.old) }
     ensures calm { ¬ (result ≡ status.SourceFault) → S.faults script.new ≡ S.faults script.old }
-    ensures sink { result ≡ status.SinkFault → SinkRose (seen K.taken K.faults K.zeros out.old) (seen K.taken K.faults K.zeros out.new) × IfSome (S.left script.old) (λ bytes. CutShort (options false words.now) bytes (seen K.taken K.faults K.zeros out.old) (seen K.taken K.faults K.zeros out.new)) }
+    ensures sink { result ≡ status.SinkFault → SinkRose (seen K.taken K.faults K.zeros out.old) (seen K.taken K.faults K.zeros out.new) × IfSome (S.left script.old) (λ bytes. CutShort D.Port.File.tells (options false words.now) bytes (seen K.taken K.faults K.zeros out.old) (seen K.taken K.faults K.zeros out.new) (D.returned dev.old) (D.returned dev.new)) }
     ensures sink_calm { ¬ (result ≡ status.SinkFault) → SinkKept (seen K.taken K.faults K.zeros out.old) (seen K.taken K.faults K.zeros out.new) }
     ensures memory { result ≡ status.Memory → IsOk (options false words.now) × (seen K.taken K.faults K.zeros out.new ≡ seen K.taken K.faults K.zeros out.old) }
+    ensures device { ¬ (IsReported result) → ¬ (result ≡ status.SinkFault) → D.returned dev.new ≡ D.returned dev.old }
+    ensures ports { DeviceKept (D.returned dev.old) (D.returned dev.new) }
     ensures complete { IsOk (options false words.now) → IsCalm (S.faults script.old) (S.faults script.new) → SinkCalm (seen K.taken K.faults K.zeros out.old) (seen K.taken K.faults K.zeros out.new) → IfSome (S.left script.old) (λ bytes. IsAnswered bytes result) }
 {
-    run_words(alloc, words, script, out)
+    run_words(alloc, words, script, out, dev)
 }
 
 // Reads the words, and then the script.
-fn run_words<S: Source, K: Sink>(
+fn run_words<S: Source, K: Sink, D: Device>(
     alloc: Global,
     words: &[Bytes],
     script: &mut S,
     out: &mut K,
+    dev: &mut D,
 ) -> Status
-    ensures { Answers (options false words.now) result (told S.left S.faults script.old) (told S.left S.faults script.new) (seen K.taken K.faults K.zeros out.old) (seen K.taken K.faults K.zeros out.new) }
+    ensures { Answers D.Port.File.tells (options false words.now) result (told S.left S.faults script.old) (told S.left S.faults script.new) (seen K.taken K.faults K.zeros out.old) (seen K.taken K.faults K.zeros out.new) (D.returned dev.old) (D.returned dev.new) }
 {
     match read_words(false, words) {
         Err(word) => handed(put_word_line(out, word), Status::Words),
-        Ok(options) => run_script(alloc, options, script, out),
+        Ok(options) => run_script(alloc, options, script, out, dev),
     }
 }
 
 // Reads the script, and answers it.
-fn run_script<S: Source, K: Sink>(
+fn run_script<S: Source, K: Sink, D: Device>(
     alloc: Global,
     options: Options,
     source: &mut S,
     out: &mut K,
+    dev: &mut D,
 ) -> Status
-    ensures { Reads (max_of options) result (told S.left S.faults source.old) (told S.left S.faults source.new) (seen K.taken K.faults K.zeros out.old) (seen K.taken K.faults K.zeros out.new) }
+    ensures { Reads D.Port.File.tells (max_of options) result (told S.left S.faults source.old) (told S.left S.faults source.new) (seen K.taken K.faults K.zeros out.old) (seen K.taken K.faults K.zeros out.new) (D.returned dev.old) (D.returned dev.new) }
 {
     match read_script(alloc, source) {
-        Ok(script) => report(alloc, &script, out),
+        Ok(script) => report(alloc, &script, out, dev),
         Err(ReadScriptFault::Found(fault)) => handed(put_fault_line(out, fault), Status::Script),
         Err(ReadScriptFault::Source) => Status::SourceFault,
         Err(ReadScriptFault::Memory) => Status::Memory,
     }
 }
 
-// Answers a script's statements and writes the report. All memory for the history, the replies and the writing is taken before the first statement.
-fn report<K: Sink>(alloc: Global, script: &Script, out: &mut K) -> Status
+// Answers a script's statements and writes the report. All memory for pages, the history, the replies and the writing is taken before the
+// first statement.
+fn report<K: Sink, D: Device>(alloc: Global, script: &Script, out: &mut K, dev: &mut D) -> Status
     requires { HasOneSession script.now }
-    ensures { ReportsOn script.now result (seen K.taken K.faults K.zeros out.old) (seen K.taken K.faults K.zeros out.new) }
+    ensures { ReportsOn D.Port.File.tells script.now result (seen K.taken K.faults K.zeros out.old) (seen K.taken K.faults K.zeros out.new) (D.returned dev.old) (D.returned dev.new) }
 {
     let phase = statements(script);
     let Ok(room) = Outcome::with_room(alloc, phase.len()) else {
@@ -92,7 +105,28 @@ fn report<K: Sink>(alloc: Global, script: &Script, out: &mut K) -> Status
     let Ok(printer) = Printer::new(alloc) else {
         return Status::Memory;
     };
-    write_report(printer, script, answer_all(alloc, script, phase, room), out)
+    let Ok(mut access) = open_access(alloc, dev) else {
+        return Status::Memory;
+    };
+    let outcome = answer_all(alloc, script, phase, room, &mut access);
+    dev.back(access.close());
+    write_report(printer, script, outcome, out)
+}
+
+// A port with room for one read, and the frame that it fills.
+fn open_access<D: Device>(alloc: Global, dev: &mut D) -> Result<PageAccess<D::Port>, AllocError>
+    ensures fresh { IfOk result (λ access. port_seen D.Port.reading D.Port.write_faults D.Port.written access.port ≡ fresh_port D.Port.File) }
+    ensures out { OnOk result (D.returned dev.new ≡ went (D.returned dev.old)) }
+    ensures kept { OnErr result (D.returned dev.new ≡ D.returned dev.old) }
+{
+    let (owner, frames) = make(alloc, 1)?;
+    match dev.port(alloc, Order::Fifo, 1) {
+        Ok(port) => Ok(PageAccess::new(port, owner, frames)),
+        Err(error) => {
+            owner.end(frames);
+            Err(error)
+        }
+    }
 }
 
 // Writes the report on an outcome.

@@ -1,11 +1,13 @@
 // Scripts and what a run makes of them.
 ghost use Rattle.std.specs.Prelude.{◌<◌};
 
+mod devices;
 mod scripts;
 
 use crate::memory::run_in_memory;
 use crate::run::run;
 use crate::status::Status;
+use hv_dev::{CleanDevice, Device};
 use hv_io::{MemSink, MemSource};
 use hv_row::Bytes;
 use std::alloc::{AllocError, Global};
@@ -45,13 +47,32 @@ fn ran_in_pieces(
     requires gives { 0 < give }
     requires takes { 0 < cut }
 {
+    let all = words_of(alloc, words)?;
+    let mut source = MemSource::new(Vec::from_slice(alloc, script)?, give, read);
+    let mut out = MemSink::new(alloc, cut, write);
+    let mut device = CleanDevice::new();
+    let status = run(alloc, all.as_slice(), &mut source, &mut out, &mut device);
+    Ok(Taken {
+        status,
+        taken: out.into_vec(),
+    })
+}
+
+// Words as their bytes.
+fn words_of(alloc: Global, words: &[&str]) -> Result<Vec<Bytes>, AllocError> {
     let mut all = Vec::new(alloc);
     for word in words {
         all.push(Bytes::from_slice(alloc, word.as_bytes())?)?;
     }
-    let mut source = MemSource::new(Vec::from_slice(alloc, script)?, give, read);
-    let mut out = MemSink::new(alloc, cut, write);
-    let status = run(alloc, all.as_slice(), &mut source, &mut out);
+    Ok(all)
+}
+
+// Runs a script over a device; its source and its sink are in memory and don't fail.
+fn ran_over<D: Device>(alloc: Global, script: &str, device: &mut D) -> Result<Taken, AllocError> {
+    let words = words_of(alloc, &["run"])?;
+    let mut source = MemSource::new(Vec::from_slice(alloc, script.as_bytes())?, 1000, None);
+    let mut out = MemSink::new(alloc, 4096, None);
+    let status = run(alloc, words.as_slice(), &mut source, &mut out, device);
     Ok(Taken {
         status,
         taken: out.into_vec(),

@@ -1,29 +1,35 @@
 -- The new chunk's entry is the last of the history.
-use Rattle.std.proofs.Common.{refl, ◌≡◌, ◌∙◌, ap, ◌+◌, ℕ, Ok, arith, ◌≤◌, length}
-use Rattle.hv_model.specs.Database.{step}
+use Rattle.std.proofs.Common.{refl, sym, ◌≡◌, ◌∙◌, ap, ◌+◌, ℕ, Ok, Some, length}
+use Rattle.hv_model.specs.Import.{rows_of}
+use Rattle.hv_model.specs.Database.{table_number, step}
+use Rattle.hv_model.specs.declared.catalogue.Database.{Database}
 use Rattle.hv_model.specs.declared.catalogue.Command.TheVariants.{Import}
 use Rattle.hv_model.specs.declared.catalogue.Detail.TheVariants as detail
-use Rattle.oodb.proofs.Answering.{commits_import, step_length, length-rows_of}
+use Rattle.oodb.specs.Stored.{database_of}
+use Rattle.oodb.proofs.StoreChanges.{some_within, stands_at}
+use Rattle.oodb.proofs.Answering.{commits_import, same_schema}
 use Rattle.oodb.proofs.answer.add_chunk.Goals as goal
 
-pub overflow_cast-count : goal.overflow_cast-count
-overflow_cast-count c =
-    let few : length c.args.rows ≤ length c.args.statement.now.lines
-    = length-rows_of c.requires.imports.table.schema c.args.statement.now.lines c.args.rows c.requires.imports.spelled in
-    let is : c.len.result ≡ length c.args.rows = c.len.ensures in
-    let short : length c.args.statement.now.lines ≤ 67108864 = c.requires.short in
-    omega arith
-
 pub returns-clause-settles : goal.returns-clause-settles
-returns-clause-settles c max =
-    let steps : step c.args.database.now (Import c.args.table c.args.rows) ≡ Ok c.import_rows.new.database
-    = c.in_ok-import_rows.ensures.ok c.args.table c.requires.imports.number in
-    let told : detail.Import c.in_ok-copy.field-0 (c.args.database.now.made + 1) c.len.result ≡ detail.Import c.args.table (c.args.database.now.made + 1) (length c.args.rows)
-    = rw (c.in_ok-copy.ensures, c.len.ensures) refl in
-    rw c.done.ensures (commits_import c.args.statement.now c.args.database.now c.import_rows.new.database c.args.table c.args.at c.args.rows c.args.history.now.items c.commit.new.history.items
-    (record { session = c.in_ok-copy-2.field-0; number = c.args.statement.now.number; what = detail.Import c.args.table (c.args.database.now.made + 1) c.len.result })
-    c.import_rows.new.database.length (detail.Import c.in_ok-copy.field-0 (c.args.database.now.made + 1) c.len.result)
-    c.requires.imports steps
-    (record { session = c.in_ok-copy-2.ensures; number = refl })
-    (rw c.in_ok-copy.ensures refl) told c.commit.ensures.longer
-    (step_length c.args.database.now c.import_rows.new.database (Import c.args.table c.args.rows) steps ∙ ap (λ (n : ℕ). n + 1) c.requires.counted))
+returns-clause-settles g c max =
+    let before = database_of c.args.store.now in
+    let new = database_of c.add_chunk.new.self in
+    let s = c.reserve.new.self in
+    let rows = c.in_ok-chunk.chunk.rows in
+    let name = c.args.table in
+    let same : database_of s ≡ before = c.in_ok-reserve.ensures.same in
+    let stands = stands_at s.tables.items c.args.at c.index.result.now (some_within _ s.tables.items c.args.at c.in_ok-reserve.ensures.room) c.index.ensures in
+    let schema = same_schema c.args.statement.now name before s c.args.at c.index.result.now c.requires.imports same stands in
+    let spelled : rows_of c.requires.imports.table.schema c.args.statement.now.lines ≡ Some rows = rw (schema, sym c.as_slice.ensures) c.in_ok-chunk.ensures.rows in
+    let steps : step before (Import name rows) ≡ Ok new =
+    ap (λ (d : Database). step d (Import name rows)) (sym same) ∙ c.add_chunk.ensures.ok name (ap (λ (d : Database). table_number d name) same ∙ c.requires.imports.number) in
+    let made : c.add_chunk.new.self.made ≡ before.made + 1 = c.add_chunk.ensures.made ∙ ap (λ (d : Database). d.made + 1) same in
+    let count : c.row_count-rows.result ≡ length rows = c.row_count-rows.ensures ∙ c.in_ok-chunk.ensures.built.counted in
+    let told : detail.Import name c.add_chunk.new.self.made c.row_count-rows.result ≡ detail.Import name (before.made + 1) (length rows) = rw (made, count) refl in
+    rw c.done.ensures (commits_import c.args.statement.now before new name c.args.at c.requires.imports rows c.args.history.now.items c.commit.new.history.items
+    (record { session = c.in_ok-session.session; number = c.args.statement.now.number; what = detail.Import c.in_ok-name.name c.add_chunk.new.self.made c.row_count-rows.result })
+    c.add_chunk.new.self.length (detail.Import name c.add_chunk.new.self.made c.row_count-rows.result)
+    spelled steps
+    (record { session = c.in_ok-session.ensures; number = refl })
+    (rw c.in_ok-name.ensures refl) told c.commit.ensures.longer
+    (c.add_chunk.ensures.length ∙ ap (λ (d : Database). d.length + 1) same ∙ ap (λ (n : ℕ). n + 1) c.requires.counted))

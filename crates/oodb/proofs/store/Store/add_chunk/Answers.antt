@@ -1,0 +1,26 @@
+-- one table has one chunk more
+use Rattle.std.proofs.Common.{◌≡◌, ◌<◌, ◌≤◌, ◌+◌, length, refl, arith}
+use Rattle.hv_model.specs.Database.{import_refusal}
+use Rattle.oodb.specs.Stored.{table_of, database_of}
+use Rattle.oodb.proofs.StoreChanges.{some_within, some_is, stands_at, step_import, sound_more}
+use Rattle.oodb.proofs.store.Store.add_chunk.Goals as goal
+
+pub returns-clause-ok : goal.returns-clause-ok
+returns-clause-ok g c name found =
+    let s = c.args.self.now in
+    let t = c.index_mut.result.now in
+    let within : c.args.at < length s.tables.items = some_within _ s.tables.items c.args.at c.requires.accepted in
+    let stands = stands_at s.tables.items c.args.at t within c.index_mut.ensures.value in
+    step_import s c.args.at t (record t { chunks = c.push_reserved.new.self }) (record { number = s.made + 1; chunk = c.args.chunk }) name within c.index_mut.ensures.value
+    (some_is (λ t. import_refusal (table_of t) (database_of s) ≡ _) _ t stands c.requires.accepted) refl refl c.push_reserved.ensures.items refl found
+
+pub returns-clause-sound : goal.returns-clause-sound
+returns-clause-sound g c =
+    let s = c.args.self.now in
+    let t = c.index_mut.result.now in
+    let within : c.args.at < length s.tables.items = some_within _ s.tables.items c.args.at c.requires.accepted in
+    let stands = stands_at s.tables.items c.args.at t within c.index_mut.ensures.value in record {
+      tables = sound_more _ _ s.tables.items c.args.at t (record t { chunks = c.push_reserved.new.self }) (record { number = s.made + 1; chunk = c.args.chunk }) within c.index_mut.ensures.value
+          c.requires.sound.tables (some_is _ _ t stands c.requires.built) refl c.push_reserved.ensures.items;
+      made = (let h : s.made ≤ s.length = c.requires.sound.made in omega arith);
+    }
