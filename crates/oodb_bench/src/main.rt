@@ -1,11 +1,14 @@
-//! `oodb_bench WORK TIMES`: does one kind of work on a full page so many times, for `bench/pages`, which takes the time.
+//! `oodb_bench WORK TIMES`: does one kind of work on a full page so many times, for `bench/pages`, which takes the time; and
+//! `oodb_bench text|lex|parse KIND SIZE` reads texts of statements of so many bytes, for `bench/sql`.
 //! The page has 214 rows of (INT, TEXT of 8 bytes). The program prints a sum over what it did, so that no work falls away.
 #![tactic(auto)]
 
 mod chunk;
+mod sql;
 mod work;
 
 use chunk::{build, make_rows, write_plainly};
+use sql::{Kind, Reading, read};
 use std::env::Args;
 use std::io::Write;
 use std::process::ExitCode;
@@ -28,6 +31,7 @@ fn main(rt: HostRuntime) -> ExitCode {
         Asked::Chunk => build(rt.alloc(), rt, &bench, times),
         Asked::Rows => make_rows(rt.alloc(), &bench.schema, times),
         Asked::Plain => write_plainly(rt.alloc(), rt, &bench, times),
+        Asked::Texts(reading, kind) => read(rt.alloc(), reading, kind, times),
     };
     let Ok(sum) = done else {
         return ExitCode::from(6);
@@ -52,6 +56,8 @@ enum Asked {
     Rows,
     /// So many pages, hashed and written by a plain loop.
     Plain,
+    /// Texts of statements, of so many bytes.
+    Texts(Reading, Kind),
 }
 
 // What is asked for, and how often.
@@ -61,7 +67,10 @@ fn read_args(args: Args) -> Option<(Asked, u32)> {
         "chunk" => Asked::Chunk,
         "rows" => Asked::Rows,
         "plain" => Asked::Plain,
-        name => Asked::Page(Work::named(name)?),
+        name => match Reading::named(name) {
+            Some(reading) => Asked::Texts(reading, Kind::named(args.next()?.as_str())?),
+            None => Asked::Page(Work::named(name)?),
+        },
     };
     let times = args.next()?.parse().ok()?;
     Some((asked, times))

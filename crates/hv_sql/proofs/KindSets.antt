@@ -1,0 +1,145 @@
+-- Sets of kinds: of lexemes that may begin a tree, or may not follow one.
+use Rattle.std.proofs.Common.{◌≡◌, ◌⊎◌, ℕ, Bool, true, false, not, ◌&&◌, ◌||◌, List, [], ◌∷◌, refl, sym, subst, inl, inr}
+use Rattle.std.specs.Prelude.{◌==◌}
+use Rattle.std.proofs.lemmas.Bool.{cases_Bool, eqb-true}
+use Rattle.hv_sql.specs.declared.lexeme.Lexeme.{Lexeme}
+use Rattle.hv_sql.specs.Terminals.{kind}
+
+-- ---- sets of kinds
+
+abbrev pub member : ℕ → List ℕ → Bool
+member k [] = false
+member k (n ∷ ns) = (k == n) || member k ns
+
+-- the one and the other
+abbrev pub joined : List ℕ → List ℕ → List ℕ
+joined [] ms = ms
+joined (n ∷ ns) ms = n ∷ joined ns ms
+
+-- none of the one is in the other
+abbrev pub apart : List ℕ → List ℕ → Bool
+apart [] ms = true
+apart (n ∷ ns) ms = not (member n ms) && apart ns ms
+
+-- all of the one are in the other
+abbrev pub within : List ℕ → List ℕ → Bool
+within [] ms = true
+within (n ∷ ns) ms = member n ms && within ns ms
+
+abbrev pub when : Bool → List ℕ → List ℕ
+when true ns = ns
+when false ns = []
+
+-- the next lexeme is of none of these kinds, if there is one
+abbrev pub Avoids : List ℕ → List Lexeme → Type 0
+Avoids bars [] = Unit {0}
+Avoids bars (t ∷ _) = member (kind t) bars ≡ false
+
+-- the next lexeme is of one of these kinds
+abbrev pub Begins : List ℕ → List Lexeme → Type 0
+Begins heads [] = ⊥
+Begins heads (t ∷ _) = member (kind t) heads ≡ true
+
+-- ---- tests
+
+pub or-left : (a b : Bool) → a ≡ true → (a || b) ≡ true
+or-left true b e = refl
+or-left false b e = absurd cc
+
+pub or-right : (a b : Bool) → b ≡ true → (a || b) ≡ true
+or-right true b e = refl
+or-right false b e = e
+
+pub or-both : (a b : Bool) → a ≡ false → b ≡ false → (a || b) ≡ false
+or-both true b e f = e
+or-both false b e f = f
+
+pub or-cases : (a b : Bool) → (a || b) ≡ true → (a ≡ true) ⊎ (b ≡ true)
+or-cases true b e = inl refl
+or-cases false b e = inr e
+
+pub or-neither : (a b : Bool) → (a || b) ≡ false → (a ≡ false) × (b ≡ false)
+or-neither true b e = absurd cc
+or-neither false b e = (refl, e)
+
+pub and-parts : (a b : Bool) → (a && b) ≡ true → (a ≡ true) × (b ≡ true)
+and-parts true b e = (refl, e)
+and-parts false b e = absurd cc
+
+pub and-both : (a b : Bool) → a ≡ true → b ≡ true → (a && b) ≡ true
+and-both true b e f = f
+and-both false b e f = e
+
+pub not-false : (a : Bool) → not a ≡ true → a ≡ false
+not-false true e = absurd cc
+not-false false e = refl
+
+-- ---- sets
+
+pub member-joined_left : (k : ℕ) (ns ms : List ℕ) → member k ns ≡ true → member k (joined ns ms) ≡ true
+member-joined_left k [] ms h = absurd cc
+member-joined_left k (n ∷ ns) ms h = elim (or-cases (k == n) (member k ns) h) [
+  | inl e ↦ or-left (k == n) (member k (joined ns ms)) e
+  | inr e ↦ or-right (k == n) (member k (joined ns ms)) (member-joined_left k ns ms e)
+]
+
+pub member-joined_right : (k : ℕ) (ns ms : List ℕ) → member k ms ≡ true → member k (joined ns ms) ≡ true
+member-joined_right k [] ms h = h
+member-joined_right k (n ∷ ns) ms h = or-right (k == n) (member k (joined ns ms)) (member-joined_right k ns ms h)
+
+pub member-joined_cases : (k : ℕ) (ns ms : List ℕ) → member k (joined ns ms) ≡ true → (member k ns ≡ true) ⊎ (member k ms ≡ true)
+member-joined_cases k [] ms h = inr h
+member-joined_cases k (n ∷ ns) ms h = elim (or-cases (k == n) (member k (joined ns ms)) h) [
+  | inl e ↦ inl (or-left (k == n) (member k ns) e)
+  | inr e ↦ elim (member-joined_cases k ns ms e) [
+    | inl f ↦ inl (or-right (k == n) (member k ns) f)
+    | inr f ↦ inr f
+  ]
+]
+
+pub member-joined_neither : (k : ℕ) (ns ms : List ℕ) → member k (joined ns ms) ≡ false → (member k ns ≡ false) × (member k ms ≡ false)
+member-joined_neither k [] ms h = (refl, h)
+member-joined_neither k (n ∷ ns) ms h =
+    let both = or-neither (k == n) (member k (joined ns ms)) h in
+    let more = member-joined_neither k ns ms both.1 in
+    (or-both (k == n) (member k ns) both.0 more.0, more.1)
+
+pub apart-member : (k : ℕ) (ns ms : List ℕ) → apart ns ms ≡ true → member k ns ≡ true → member k ms ≡ false
+apart-member k [] ms a h = absurd cc
+apart-member k (n ∷ ns) ms a h =
+    let both = and-parts (not (member n ms)) (apart ns ms) a in
+    elim (or-cases (k == n) (member k ns) h) [
+      | inl e ↦ subst (λ z. member z ms ≡ false) (sym (eqb-true k n e)) (not-false (member n ms) both.0)
+      | inr e ↦ apart-member k ns ms both.1 e
+    ]
+
+pub within-member : (k : ℕ) (ns ms : List ℕ) → within ns ms ≡ true → member k ns ≡ true → member k ms ≡ true
+within-member k [] ms w h = absurd cc
+within-member k (n ∷ ns) ms w h =
+    let both = and-parts (member n ms) (within ns ms) w in
+    elim (or-cases (k == n) (member k ns) h) [
+      | inl e ↦ subst (λ z. member z ms ≡ true) (sym (eqb-true k n e)) both.0
+      | inr e ↦ within-member k ns ms both.1 e
+    ]
+
+-- every member of the one is a member of the other
+abbrev pub Within : List ℕ → List ℕ → Type 0
+Within ns ms = (k : ℕ) → member k ns ≡ true → member k ms ≡ true
+
+pub Within-Avoids : (ns ms : List ℕ) (lexemes : List Lexeme) → Within ns ms → Avoids ms lexemes → Avoids ns lexemes
+Within-Avoids ns ms [] w h = tt
+Within-Avoids ns ms (t ∷ ts) w h = elim (cases_Bool (member (kind t) ns)) as (λ _. member (kind t) ns ≡ false) [
+  | inl e ↦ absurd (not_both _ (w (kind t) e) h)
+  | inr e ↦ e
+]
+  where
+    not_both : (b : Bool) → b ≡ true → b ≡ false → ⊥
+    not_both b e f = cc
+
+pub Within-Begins : (ns ms : List ℕ) (lexemes : List Lexeme) → Within ns ms → Begins ns lexemes → Begins ms lexemes
+Within-Begins ns ms [] w h = h
+Within-Begins ns ms (t ∷ ts) w h = w (kind t) h
+
+pub apart-Avoids : (heads bars : List ℕ) (lexemes : List Lexeme) → apart heads bars ≡ true → Begins heads lexemes → Avoids bars lexemes
+apart-Avoids heads bars [] a h = absurd h
+apart-Avoids heads bars (t ∷ ts) a h = apart-member (kind t) heads bars a h

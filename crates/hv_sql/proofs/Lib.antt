@@ -1,0 +1,24 @@
+mod Plain
+mod KindNumbers
+mod KindSets
+mod Lawful
+mod Sequence
+mod Choice
+mod Lists
+mod RuleLaws
+mod OneReading
+pub mod Loops
+pub mod Answering
+pub mod LexingClasses
+pub mod LexingLaws
+pub mod LexingLengths
+pub mod LexingNumbers
+pub mod LexingQuotes
+pub mod LexingSorts
+pub mod LexingSteps
+pub mod LexingWords
+pub mod Standing
+mod Boundary
+mod Cut
+mod Spelt
+pub mod Completing

@@ -1,0 +1,49 @@
+-- The laws of the language: lexemes are at most one statement, or have one fault. This project's own.
+use Rattle.std.specs.Prelude.{◌≡◌, List, [], ◌∷◌, Result, Ok, Err}
+use Rattle.hv_sql.specs.declared.lexeme.Lexeme.{Lexeme}
+use Rattle.hv_sql.specs.declared.tree.Ast.{Ast}
+use Rattle.hv_sql.specs.Reading.{Read}
+use Rattle.hv_sql.specs.SqlReading.{statement_at}
+use Rattle.hv_sql.specs.Fault.{IsStatement, IsFault}
+
+-- a value where nothing is left, else the lexemes that are
+abbrev pub ended : {A : Type 0} → A → List Lexeme → Result A (List Lexeme)
+ended a [] = Ok a
+ended a (t ∷ us) = Err (t ∷ us)
+
+-- what was read, if nothing is left
+abbrev pub to_end : {A : Type 0} → Read A → Result A (List Lexeme)
+to_end (Ok x) = ended x.0 x.1
+to_end (Err at) = Err at
+
+-- the tree of lexemes, or the lexemes from the one at fault on
+abbrev pub tree_at : List Lexeme → Result Ast (List Lexeme)
+tree_at lexemes = to_end (statement_at lexemes)
+
+-- lexemes are at most one statement
+abbrev pub OneTree : Type 0
+OneTree = (lexemes : List Lexeme) (a b : Ast) → IsStatement lexemes a → IsStatement lexemes b → a ≡ b
+
+-- what is read is a statement
+abbrev pub TreesSound : Type 0
+TreesSound = (lexemes : List Lexeme) (a : Ast) → tree_at lexemes ≡ Ok a → IsStatement lexemes a
+
+-- each statement is read
+abbrev pub TreesComplete : Type 0
+TreesComplete = (lexemes : List Lexeme) (a : Ast) → IsStatement lexemes a → tree_at lexemes ≡ Ok a
+
+-- what is told is the fault
+abbrev pub FaultsSound : Type 0
+FaultsSound = (lexemes at : List Lexeme) → tree_at lexemes ≡ Err at → IsFault lexemes at
+
+-- each fault is told
+abbrev pub FaultsComplete : Type 0
+FaultsComplete = (lexemes at : List Lexeme) → IsFault lexemes at → tree_at lexemes ≡ Err at
+
+-- lexemes have at most one fault
+abbrev pub OneFault : Type 0
+OneFault = (lexemes at other : List Lexeme) → IsFault lexemes at → IsFault lexemes other → at ≡ other
+
+-- a statement has no fault
+abbrev pub NoFaultToo : Type 0
+NoFaultToo = (lexemes at : List Lexeme) (a : Ast) → IsStatement lexemes a → IsFault lexemes at → ⊥

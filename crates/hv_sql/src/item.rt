@@ -1,0 +1,120 @@
+// The items of a select.
+ghost use Rattle.std.specs.Prelude.{◌≡◌, true};
+ghost use Rattle.std.specs.List.{list_any};
+ghost use Rattle.hv_sql.specs.Sql.{is_aggregate};
+ghost use Rattle.hv_sql.specs.SqlReading.{counted_at, count_at, ref_in_at, item_at, star_at, items_at};
+ghost use Rattle.hv_sql.specs.Code.{Gives};
+
+use crate::reference::reference;
+use crate::rest::Rest;
+use crate::rule::{Rule, list_of_up_to};
+use crate::stop::Stop;
+use crate::terminal::{keyword, next_symbol, next_word, symbol};
+use crate::{ItemAst, ItemAsts, Keyword, RefAst, Symbol};
+use hv_row::Listed;
+use std::alloc::Global;
+
+/// `*` or a reference, within `COUNT ( )`.
+#[tactic(auto, unfolding(crate::specs::SqlReading::counted_at))]
+fn counted<'a>(alloc: Global, lexemes: Rest<'a>) -> Result<(ItemAst, Rest<'a>), Stop<'a>>
+    ensures { Gives result (counted_at lexemes.entry) }
+{
+    if next_symbol(Symbol::Star, &lexemes) {
+        let (_, rest) = symbol(Symbol::Star, lexemes)?;
+        Ok((ItemAst::Count, rest))
+    } else {
+        let (of, rest) = reference(alloc, lexemes)?;
+        Ok((ItemAst::CountOf(of), rest))
+    }
+}
+
+/// `COUNT ( * ) | COUNT ( ref )`.
+#[tactic(auto, unfolding(crate::specs::SqlReading::count_at))]
+fn count<'a>(alloc: Global, lexemes: Rest<'a>) -> Result<(ItemAst, Rest<'a>), Stop<'a>>
+    ensures { Gives result (count_at lexemes.entry) }
+{
+    let (_, rest) = keyword(Keyword::Count, lexemes)?;
+    let (_, rest) = symbol(Symbol::Open, rest)?;
+    let (item, rest) = counted(alloc, rest)?;
+    let (_, rest) = symbol(Symbol::Close, rest)?;
+    Ok((item, rest))
+}
+
+/// A keyword, and a reference in parentheses.
+#[tactic(auto, unfolding(crate::specs::SqlReading::ref_in_at))]
+fn ref_in<'a>(
+    alloc: Global,
+    which: Keyword,
+    lexemes: Rest<'a>,
+) -> Result<(RefAst, Rest<'a>), Stop<'a>>
+    ensures { Gives result (ref_in_at which lexemes.entry) }
+{
+    let (_, rest) = keyword(which, lexemes)?;
+    let (_, rest) = symbol(Symbol::Open, rest)?;
+    let (of, rest) = reference(alloc, rest)?;
+    let (_, rest) = symbol(Symbol::Close, rest)?;
+    Ok((of, rest))
+}
+
+impl Rule for ItemAst {
+    ghost use Rattle.hv_sql.specs.SqlReading.{item_at};
+
+    ghost reader = { item_at };
+
+    /// `ref | COUNT ( * ) | ( COUNT | SUM | MIN | MAX ) ( ref )`.
+    #[tactic(auto, unfolding(crate::specs::SqlReading::item_at))]
+    fn read<'a>(alloc: Global, lexemes: Rest<'a>) -> Result<(ItemAst, Rest<'a>), Stop<'a>> {
+        if next_word(Keyword::Count, &lexemes) {
+            count(alloc, lexemes)
+        } else if next_word(Keyword::Sum, &lexemes) {
+            let (of, rest) = ref_in(alloc, Keyword::Sum, lexemes)?;
+            Ok((ItemAst::Sum(of), rest))
+        } else if next_word(Keyword::Min, &lexemes) {
+            let (of, rest) = ref_in(alloc, Keyword::Min, lexemes)?;
+            Ok((ItemAst::Least(of), rest))
+        } else if next_word(Keyword::Max, &lexemes) {
+            let (of, rest) = ref_in(alloc, Keyword::Max, lexemes)?;
+            Ok((ItemAst::Greatest(of), rest))
+        } else {
+            let (of, rest) = reference(alloc, lexemes)?;
+            Ok((ItemAst::Col(of), rest))
+        }
+    }
+}
+
+/// `*`, as the one item.
+#[tactic(auto, unfolding(crate::specs::SqlReading::star_at))]
+fn star<'a>(alloc: Global, lexemes: Rest<'a>) -> Result<(ItemAsts, Rest<'a>), Stop<'a>>
+    ensures { Gives result (star_at lexemes.entry) }
+{
+    let (byte, rest) = symbol(Symbol::Star, lexemes)?;
+    let mut items = Listed::new(alloc);
+    items.push(ItemAst::Star { byte })?;
+    Ok((items, rest))
+}
+
+/// `* | item { , item }`, of at most 128 items.
+#[tactic(auto, unfolding(crate::specs::SqlReading::items_at))]
+pub fn items<'a>(alloc: Global, lexemes: Rest<'a>) -> Result<(ItemAsts, Rest<'a>), Stop<'a>>
+    ensures { Gives result (items_at lexemes.entry) }
+{
+    if next_symbol(Symbol::Star, &lexemes) {
+        star(alloc, lexemes)
+    } else {
+        list_of_up_to(alloc, 127, lexemes)
+    }
+}
+
+/// Whether an item is an aggregate.
+fn is_aggregate(item: &ItemAst) -> bool
+    ensures { result ≡ is_aggregate item.now }
+{
+    !matches!(item, ItemAst::Star { .. } | ItemAst::Col(_))
+}
+
+/// Whether one of the items is an aggregate.
+pub fn has_aggregate(items: &ItemAsts) -> bool
+    ensures { result ≡ list_any is_aggregate items.now }
+{
+    items.iter().any(is_aggregate)
+}

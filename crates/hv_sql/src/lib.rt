@@ -1,0 +1,34 @@
+//! The language: the tree of a statement's text, or the place of its fault.
+#![tactic(auto)]
+
+mod column;
+mod condition;
+mod item;
+mod law;
+mod lexeme;
+mod lexing;
+mod operand;
+mod order;
+mod parsing;
+mod place;
+mod reference;
+mod rest;
+mod rule;
+mod select;
+mod statement;
+mod stop;
+mod terminal;
+#[cfg(test)]
+mod tests;
+mod tree;
+mod words;
+
+pub use law::{fault_law, grammar_laws};
+pub use lexeme::{Lexeme, What};
+pub use lexing::{lex, lexing_law, number_of, text_of, token_bytes};
+pub use parsing::{SqlFault, parse};
+pub use tree::{
+    Ast, Cmp, CondAst, ItemAst, ItemAsts, KeyAst, KeyAsts, KeyBy, Numbers, OperandAst, PlaceAst,
+    PlaceAsts, RefAst, RefAsts, SelectAst, Word,
+};
+pub use words::{Keyword, Symbol, keyword_of, symbol_of, words_law};

@@ -1,0 +1,62 @@
+// The places of a select.
+ghost use Rattle.std.specs.Prelude.{◌≡◌};
+ghost use Rattle.hv_sql.specs.SqlReading.{alias_at, place_at, places_at};
+ghost use Rattle.hv_sql.specs.Code.{Gives};
+
+use crate::rest::Rest;
+use crate::rule::{Rule, list_of};
+use crate::stop::Stop;
+use crate::terminal::{NAME, keyword, name, next_is, next_word};
+use crate::{Keyword, PlaceAst, PlaceAsts, Word};
+use hv_row::Listed;
+use std::alloc::Global;
+
+/// `[ [ AS ] name ]`.
+#[tactic(auto, unfolding(crate::specs::SqlReading::alias_at))]
+fn alias<'a>(alloc: Global, lexemes: Rest<'a>) -> Result<(Option<Word>, Rest<'a>), Stop<'a>>
+    ensures { Gives result (alias_at lexemes.entry) }
+{
+    if next_word(Keyword::As, &lexemes) {
+        let (_, rest) = keyword(Keyword::As, lexemes)?;
+        let (word, rest) = name(alloc, rest)?;
+        Ok((Some(word), rest))
+    } else if next_is(NAME, &lexemes) {
+        let (word, rest) = name(alloc, lexemes)?;
+        Ok((Some(word), rest))
+    } else {
+        Ok((None, lexemes))
+    }
+}
+
+impl Rule for PlaceAst {
+    ghost use Rattle.hv_sql.specs.SqlReading.{place_at};
+
+    ghost reader = { place_at };
+
+    /// `name [ [ AS ] name ]`.
+    #[tactic(auto, unfolding(crate::specs::SqlReading::place_at))]
+    fn read<'a>(alloc: Global, lexemes: Rest<'a>) -> Result<(PlaceAst, Rest<'a>), Stop<'a>> {
+        let (table, rest) = name(alloc, lexemes)?;
+        let (alias, rest) = alias(alloc, rest)?;
+        Ok((PlaceAst { table, alias }, rest))
+    }
+}
+
+/// `place { , place }`, or one place alone.
+#[tactic(auto, unfolding(crate::specs::SqlReading::places_at))]
+pub fn places<'a>(
+    alloc: Global,
+    alone: bool,
+    lexemes: Rest<'a>,
+) -> Result<(PlaceAsts, Rest<'a>), Stop<'a>>
+    ensures { Gives result (places_at alone lexemes.entry) }
+{
+    if alone {
+        let (place, rest) = PlaceAst::read(alloc, lexemes)?;
+        let mut places = Listed::new(alloc);
+        places.push(place)?;
+        Ok((places, rest))
+    } else {
+        list_of(alloc, lexemes)
+    }
+}
