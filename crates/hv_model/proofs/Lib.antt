@@ -3,3 +3,4 @@ pub mod SoFar
 pub mod TokenLaws
 pub mod TreeLaws
 pub mod Whole
+pub mod QueryLaws

@@ -3,13 +3,13 @@ use Rattle.std.proofs.Common.{◌≡◌, ℕ, Bool, true, false, ◌&&◌, List,
 use Rattle.std.specs.Option.{option_map}
 use Rattle.hv_row.specs.declared.value.ColType.{ColType}
 use Rattle.hv_row.specs.declared.schema.Column.{Column}
-use Rattle.hv_model.specs.declared.tree.Ast.{Ast}
-use Rattle.hv_model.specs.declared.tree.Ast.TheVariants.{Create, SelectAll}
+use Rattle.hv_model.specs.declared.built.Built.{Built}
+use Rattle.hv_model.specs.declared.built.Built.TheVariants.{Create, SelectAll}
 use Rattle.hv_model.specs.Token.{is_word, is_name, is_symbol}
-use Rattle.hv_model.specs.Tree.{plain_column, column_before, create_of, columns_of, select_of, tree_of_tokens}
+use Rattle.hv_model.specs.Built.{plain_column, column_before, create_of, columns_of, select_of, tree_of_tokens}
 use Rattle.hv_model.specs.Script.{lines_wanted}
 
-wanted-if : (b : Bool) (x y : Option Ast) → lines_wanted x ≡ 0 → lines_wanted y ≡ 0 → lines_wanted (if b then x else y) ≡ 0
+wanted-if : (b : Bool) (x y : Option Built) → lines_wanted x ≡ 0 → lines_wanted y ≡ 0 → lines_wanted (if b then x else y) ≡ 0
 wanted-if true x y p q = p
 wanted-if false x y p q = q
 

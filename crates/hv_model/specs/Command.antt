@@ -4,8 +4,8 @@ use Rattle.std.specs.List.{flat_map}
 use Rattle.std.specs.Option.{option_and_then, option_map}
 use Rattle.hv_row.specs.declared.schema.Column.{Column}
 use Rattle.hv_row.specs.Schema.{same_name, first_repeated}
-use Rattle.hv_model.specs.declared.tree.Ast.{Ast}
-use Rattle.hv_model.specs.declared.tree.Ast.TheVariants as tree
+use Rattle.hv_model.specs.declared.built.Built.{Built}
+use Rattle.hv_model.specs.declared.built.Built.TheVariants as tree
 use Rattle.hv_model.specs.declared.script.Statement.{Statement}
 use Rattle.hv_model.specs.declared.script.Script.{Script}
 use Rattle.hv_model.specs.declared.catalogue.Table.{Table}
@@ -19,7 +19,7 @@ use Rattle.hv_model.specs.declared.catalogue.Entry.{Entry}
 use Rattle.hv_model.specs.declared.reply.Refusal.{Refusal}
 use Rattle.hv_model.specs.declared.reply.Refusal.TheVariants.{Unbuilt}
 use Rattle.hv_model.specs.declared.query.BoundQuery.{BoundQuery}
-use Rattle.hv_model.specs.Tree.{tree_of}
+use Rattle.hv_model.specs.Built.{tree_of}
 use Rattle.hv_model.specs.Import.{rows_of}
 use Rattle.hv_model.specs.Database.{table_number, step, empty_database}
 use Rattle.hv_model.specs.Query.{whole_table}
@@ -33,7 +33,7 @@ abbrev pub are_schema : List Column → Bool
 are_schema columns = nat_le 1 (length columns) && nat_le (length columns) 32 && is_none (first_repeated columns)
 
 -- the command of a statement with this tree and these lines, where it has one at the database
-abbrev pub command_of : Option Ast → List ℕ → Database → Option Command
+abbrev pub command_of : Option Built → List ℕ → Database → Option Command
 command_of None lines s = None
 command_of (Some (tree.Create name columns)) lines s = if are_schema columns then Some (Create name columns) else None
 command_of (Some (tree.Import name wanted)) lines s =
@@ -47,7 +47,7 @@ abbrev pub command_at : Statement → Database → Option Command
 command_at x s = command_of (tree_of x.text) x.lines s
 
 -- the query of a statement with this tree, where it has one at the database
-abbrev pub query_of : Option Ast → Database → Option BoundQuery
+abbrev pub query_of : Option Built → Database → Option BoundQuery
 query_of (Some (tree.SelectAll name)) s =
     option_and_then (λ number. option_map (λ t. whole_table number t.schema) (slice_get s.tables number)) (table_number s name)
 query_of (Some (tree.Create name columns)) s = None

@@ -3,8 +3,8 @@ use Rattle.std.specs.Prelude.{◌≡◌, ℕ, ◌+◌, ◌-◌, ◌<◌, ◌≤�
 use Rattle.std.specs.List.{flat_map}
 use Rattle.std.specs.Option.{option_and_then}
 use Rattle.hv_row.specs.Schema.{same_name}
-use Rattle.hv_model.specs.declared.tree.Ast.{Ast}
-use Rattle.hv_model.specs.declared.tree.Ast.TheVariants as tree
+use Rattle.hv_model.specs.declared.built.Built.{Built}
+use Rattle.hv_model.specs.declared.built.Built.TheVariants as tree
 use Rattle.hv_model.specs.declared.script.Statement.{Statement}
 use Rattle.hv_model.specs.declared.script.Script.{Script}
 use Rattle.hv_model.specs.declared.catalogue.Database.{Database}
@@ -18,9 +18,9 @@ use Rattle.hv_model.specs.declared.reply.Failure.{Failure}
 use Rattle.hv_model.specs.declared.reply.Failure.TheVariants as failure
 use Rattle.hv_model.specs.declared.query.BoundQuery.{BoundQuery}
 use Rattle.hv_model.specs.declared.query.Cell.{Cell}
-use Rattle.hv_model.specs.Tree.{tree_of}
+use Rattle.hv_model.specs.Built.{tree_of}
 use Rattle.hv_model.specs.Database.{step}
-use Rattle.hv_model.specs.Query.{IsAnswer}
+use Rattle.hv_model.specs.Answer.{IsAnswer}
 use Rattle.hv_model.specs.Command.{statements, command_at, bound, refusal, detail_of, database_after, entry_at}
 
 -- the length of the history that a reply tells
@@ -138,21 +138,21 @@ RefusalsAreCaused s max history replies =
     → refusal x (database_after s history n) max ≡ Some cause
 
 -- whether a statement with this tree reads pages
-abbrev pub reads_pages : Option Ast → Bool
+abbrev pub reads_pages : Option Built → Bool
 reads_pages None = false
 reads_pages (Some (tree.Create name columns)) = false
 reads_pages (Some (tree.Import name wanted)) = false
 reads_pages (Some (tree.SelectAll name)) = true
 
 -- whether a statement with this tree writes pages
-abbrev pub writes_pages : Option Ast → Bool
+abbrev pub writes_pages : Option Built → Bool
 writes_pages None = false
 writes_pages (Some (tree.Create name columns)) = false
 writes_pages (Some (tree.Import name wanted)) = true
 writes_pages (Some (tree.SelectAll name)) = false
 
 -- whether a statement with this tree may fail so: a read and a damaged page are of one that reads pages, a write is of one that writes them
-abbrev pub may_fail : Option Ast → Failure → Bool
+abbrev pub may_fail : Option Built → Failure → Bool
 may_fail tree failure.Read = reads_pages tree
 may_fail tree failure.Write = writes_pages tree
 may_fail tree (failure.Damaged chunk page why) = reads_pages tree

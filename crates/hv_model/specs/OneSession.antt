@@ -11,7 +11,7 @@ use Rattle.hv_model.specs.declared.reply.Reply.TheVariants.{Done, Rows, Refused,
 use Rattle.hv_model.specs.declared.reply.Refusal.{Refusal}
 use Rattle.hv_model.specs.declared.reply.Failure.{Failure}
 use Rattle.hv_model.specs.declared.query.Cell.{Cell}
-use Rattle.hv_model.specs.Tree.{tree_of}
+use Rattle.hv_model.specs.Built.{tree_of}
 use Rattle.hv_model.specs.Database.{step}
 use Rattle.hv_model.specs.Command.{command_at, refusal, detail_of, database_after, entry_at}
 use Rattle.hv_model.specs.Legal.{number_of, is_done, Names, Accepted, Answered, FollowsNumber, may_fail}

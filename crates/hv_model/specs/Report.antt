@@ -8,7 +8,7 @@ use Rattle.hv_model.specs.declared.catalogue.Entry.{Entry}
 use Rattle.hv_model.specs.declared.reply.Reply.{Reply}
 use Rattle.hv_model.specs.declared.reply.Reply.TheVariants as reply
 use Rattle.hv_model.specs.declared.reply.Refusal.{Refusal}
-use Rattle.hv_model.specs.declared.reply.Refusal.TheVariants.{Unbuilt}
+use Rattle.hv_model.specs.declared.reply.Refusal.TheVariants as refused
 use Rattle.hv_model.specs.declared.reply.Failure.{Failure}
 use Rattle.hv_model.specs.declared.reply.Failure.TheVariants.{Read, Write, Damaged, Memory}
 use Rattle.hv_model.specs.declared.query.Cell.{Cell}
@@ -36,7 +36,17 @@ row_line cells = join_by cell_text (codes "|") cells ++ codes "\n"
 
 -- why a statement is refused
 abbrev pub refusal_text : Refusal → List ℕ
-refusal_text Unbuilt = codes "unbuilt"
+refusal_text refused.Unbuilt = codes "unbuilt"
+refusal_text (refused.Syntax byte) = codes "syntax " ++ decimal byte
+refusal_text (refused.NoTable byte) = codes "no-table " ++ decimal byte
+refusal_text (refused.TooManyPlaces byte) = codes "too-many-places " ++ decimal byte
+refusal_text (refused.DuplicateAlias byte) = codes "duplicate-alias " ++ decimal byte
+refusal_text (refused.NoColumn byte) = codes "no-column " ++ decimal byte
+refusal_text (refused.Ambiguous byte) = codes "ambiguous " ++ decimal byte
+refusal_text (refused.TypeMismatch byte) = codes "type-mismatch " ++ decimal byte
+refusal_text (refused.NotGrouped byte) = codes "not-grouped " ++ decimal byte
+refusal_text (refused.NoOutput byte) = codes "no-output " ++ decimal byte
+refusal_text refused.EmptyAggregate = codes "empty-aggregate"
 
 -- why a statement failed
 abbrev pub failure_text : Failure → List ℕ

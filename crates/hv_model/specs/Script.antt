@@ -1,14 +1,14 @@
 -- Which statements the bytes of a script are, or what its first fault is. This project's own.
 use Rattle.std.specs.Prelude.{◌≡◌, ◌⊎◌, ℕ, ◌+◌, ◌<◌, ◌≤◌, Bool, true, false, not, ◌||◌, ◌&&◌, ◌==◌, nat_le, List, [], ◌∷◌, ◌++◌, length, Option, Some, None, codes, IsSome, if◌then◌else◌}
 use Rattle.std.specs.List.{onto_first, list_all}
-use Rattle.hv_model.specs.declared.tree.Ast.{Ast}
-use Rattle.hv_model.specs.declared.tree.Ast.TheVariants.{Create, Import, SelectAll}
+use Rattle.hv_model.specs.declared.built.Built.{Built}
+use Rattle.hv_model.specs.declared.built.Built.TheVariants.{Create, Import, SelectAll}
 use Rattle.hv_model.specs.declared.script.Statement.{Statement}
 use Rattle.hv_model.specs.declared.script.Script.{Script}
 use Rattle.hv_model.specs.declared.script.FaultName.{FaultName}
 use Rattle.hv_model.specs.declared.script.FaultName.TheVariants.{TooLong, Unended, ShortImport}
 use Rattle.hv_model.specs.Token.{is_white}
-use Rattle.hv_model.specs.Tree.{tree_of}
+use Rattle.hv_model.specs.Built.{tree_of}
 
 -- the most bytes of a script
 abbrev pub most_bytes : ℕ
@@ -64,7 +64,7 @@ abbrev pub data_behind : List ℕ → List ℕ
 data_behind behind = data_from (behind_gap behind) behind
 
 -- how many lines a statement takes: those of an import, if they are at most 1,000,000
-abbrev pub lines_wanted : Option Ast → ℕ
+abbrev pub lines_wanted : Option Built → ℕ
 lines_wanted (Some (Import _ lines)) = if nat_le lines 1000000 then lines else 0
 lines_wanted (Some (Create _ _)) = 0
 lines_wanted (Some (SelectAll _)) = 0

@@ -22,6 +22,14 @@ pub struct Table {
 /// Tables in order of creation.
 pub type Tables = Listed<Table>;
 
+/// What a query has to know of a table: its number, which is its place in the order of creation, from 0; its name and its schema.
+#[derive(Debug, Drop)]
+pub struct TableHead {
+    pub number: u32,
+    pub name: Bytes,
+    pub schema: Schema,
+}
+
 /// A database: its tables, how many chunks were ever made, and how many commands were accepted.
 #[derive(Debug, Drop)]
 pub struct Database {

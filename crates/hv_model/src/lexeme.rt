@@ -1,5 +1,5 @@
-// Tokens of a statement's text, by their places.
-use hv_row::Listed;
+// The tokens of a statement's text: their places, and what the grammar sees them as.
+use hv_row::{Bytes, Listed};
 
 /// What sort of token it is.
 #[derive(Debug, Clone, Copy, PartialEq, Eq)]
@@ -28,3 +28,97 @@ pub struct Token {
 
 /// The tokens of a text, in order.
 pub type Tokens = Listed<Token>;
+
+/// A word that no name may be.
+#[derive(Debug, Clone, Copy, PartialEq, Eq)]
+pub enum Keyword {
+    And,
+    As,
+    Asc,
+    Barrier,
+    By,
+    Chunk,
+    Chunks,
+    Count,
+    Create,
+    Desc,
+    From,
+    Group,
+    Import,
+    Index,
+    Int,
+    Into,
+    Is,
+    Limit,
+    Lines,
+    Max,
+    Merge,
+    Min,
+    Not,
+    Null,
+    Of,
+    Or,
+    Order,
+    Purge,
+    Range,
+    Select,
+    Session,
+    Sum,
+    Summary,
+    Table,
+    Text,
+    Where,
+}
+
+/// A symbol.
+#[derive(Debug, Clone, Copy, PartialEq, Eq)]
+pub enum Symbol {
+    /// `(`
+    Open,
+    /// `)`
+    Close,
+    /// `,`
+    Comma,
+    /// `.`
+    Dot,
+    /// `*`
+    Star,
+    /// `-`
+    Minus,
+    /// `=`
+    Equal,
+    /// `<>`
+    Unequal,
+    /// `!=`
+    NotEqual,
+    /// `<`
+    Less,
+    /// `<=`
+    AtMost,
+    /// `>`
+    Greater,
+    /// `>=`
+    AtLeast,
+}
+
+/// What a lexeme is.
+#[derive(Debug, Drop)]
+pub enum What {
+    /// A name's bytes.
+    Name(Bytes),
+    Keyword(Keyword),
+    /// A number's value, or 2^64 - 1 where it is greater.
+    Number(u64),
+    /// A text's bytes, each quote once.
+    Text(Bytes),
+    Symbol(Symbol),
+    /// What no statement has.
+    Other,
+}
+
+/// A lexeme: what it is, and the byte at which it begins in its statement.
+#[derive(Debug, Drop)]
+pub struct Lexeme {
+    pub what: What,
+    pub byte: u32,
+}

@@ -2,6 +2,7 @@
 //! Nothing here has a page, a file or a budget.
 #![tactic(auto)]
 
+mod built;
 mod catalogue;
 mod lexeme;
 mod query;
@@ -13,11 +14,15 @@ mod tests;
 mod token;
 mod tree;
 
+pub use built::Built;
 pub use catalogue::{
-    Chunk, Chunks, Command, Database, Detail, Entries, Entry, StepRefusal, Table, Tables,
+    Chunk, Chunks, Command, Database, Detail, Entries, Entry, StepRefusal, Table, TableHead, Tables,
 };
-pub use lexeme::{Sort, Token, Tokens};
-pub use query::{BoundQuery, Cell, ColRef, Item, Items, OutRow, OutRows, Places};
+pub use lexeme::{Keyword, Lexeme, Sort, Symbol, Token, Tokens, What};
+pub use query::{
+    BoundQuery, Cell, ColRef, ColRefs, Combo, Combos, Cond, Item, Items, Operand, OutRow, OutRows,
+    Places, PlainTables, SortKey, SortKeys,
+};
 pub use reading::{MAX_IMPORT_LINES, lines_wanted, tree_of};
 pub use reply::{Failure, Refusal, Replies, Reply, Why};
 pub use script::{FaultName, Options, Phase, Phases, Script, ScriptFault, SessionNames, Statement};
@@ -25,4 +30,7 @@ pub use token::{
     LINES_CAP, MAX_NAME_BYTES, is_name, is_number, is_symbol, is_white, is_word, next_token,
     number_capped,
 };
-pub use tree::Ast;
+pub use tree::{
+    Ast, Cmp, CondAst, ItemAst, ItemAsts, KeyAst, KeyAsts, KeyBy, Numbers, OperandAst, PlaceAst,
+    PlaceAsts, RefAst, RefAsts, SelectAst, Word,
+};

@@ -2,10 +2,10 @@
 ghost use Rattle.std.specs.Prelude.{◌≡◌, ◌<◌, ◌∷◌, length, true, false, IfOk, IfSome, MatchOption, if◌then◌else◌};
 ghost use Rattle.std.specs.Option.{option_map, option_and_then};
 ghost use Rattle.hv_model.specs.Token.{tokens};
-ghost use Rattle.hv_model.specs.Tree.{tree_of, create_of, columns_of, import_of, select_of, type_named, plain_column, column_before, nothing_behind};
+ghost use Rattle.hv_model.specs.Built.{tree_of, create_of, columns_of, import_of, select_of, type_named, plain_column, column_before, nothing_behind};
 ghost use Rattle.hv_model.specs.Script.{lines_wanted};
 
-use crate::Ast;
+use crate::Built;
 use crate::token::{is_name, is_number, is_symbol, is_word, next_token, number_capped};
 use hv_row::{Bytes, ColType, Column, Columns};
 use std::alloc::{AllocError, Global};
@@ -21,7 +21,7 @@ struct ImportWords<'a> {
 }
 
 fn import_words(text: &[u8]) -> Option<ImportWords<'_>>
-    ensures { option_map (λ words. Ast.Import words.table.now words.lines) result ≡ import_of (tokens text.now) }
+    ensures { option_map (λ words. Built.Import words.table.now words.lines) result ≡ import_of (tokens text.now) }
 {
     let (into, text) = next_token(text)?;
     let (table, text) = next_token(text)?;
@@ -132,7 +132,7 @@ fn columns_of(alloc: Global, text: &[u8]) -> Result<Option<Columns>, AllocError>
 
 /// The table of `TABLE table (`, the words behind CREATE, and what stands behind the parenthesis.
 fn create_words(text: &[u8]) -> Option<(&[u8], &[u8])>
-    ensures { MatchOption result (create_of (tokens text.now) ≡ None) (λ p. create_of (tokens text.now) ≡ option_map (λ columns. Ast.Create p.0.now columns) (columns_of (tokens p.1.now))) }
+    ensures { MatchOption result (create_of (tokens text.now) ≡ None) (λ p. create_of (tokens text.now) ≡ option_map (λ columns. Built.Create p.0.now columns) (columns_of (tokens p.1.now))) }
 {
     let (word, text) = next_token(text)?;
     let (table, text) = next_token(text)?;
@@ -144,7 +144,7 @@ fn create_words(text: &[u8]) -> Option<(&[u8], &[u8])>
     }
 }
 
-fn create_of(alloc: Global, text: &[u8]) -> Result<Option<Ast>, AllocError>
+fn create_of(alloc: Global, text: &[u8]) -> Result<Option<Built>, AllocError>
     ensures { IfOk result (λ tree. tree ≡ create_of (tokens text.now)) }
 {
     let Some((table, behind)) = create_words(text) else {
@@ -153,19 +153,19 @@ fn create_of(alloc: Global, text: &[u8]) -> Result<Option<Ast>, AllocError>
     let Some(columns) = columns_of(alloc, behind)? else {
         return Ok(None);
     };
-    Ok(Some(Ast::Create {
+    Ok(Some(Built::Create {
         table: Bytes::from_slice(alloc, table)?,
         columns,
     }))
 }
 
-fn import_of(alloc: Global, text: &[u8]) -> Result<Option<Ast>, AllocError>
+fn import_of(alloc: Global, text: &[u8]) -> Result<Option<Built>, AllocError>
     ensures { IfOk result (λ tree. tree ≡ import_of (tokens text.now)) }
 {
     let Some(words) = import_words(text) else {
         return Ok(None);
     };
-    Ok(Some(Ast::Import {
+    Ok(Some(Built::Import {
         table: Bytes::from_slice(alloc, words.table)?,
         lines: words.lines,
     }))
@@ -173,7 +173,7 @@ fn import_of(alloc: Global, text: &[u8]) -> Result<Option<Ast>, AllocError>
 
 /// The table of `* FROM table`, the words behind SELECT.
 fn select_words(text: &[u8]) -> Option<&[u8]>
-    ensures { option_map (λ table. Ast.SelectAll table.now) result ≡ select_of (tokens text.now) }
+    ensures { option_map (λ table. Built.SelectAll table.now) result ≡ select_of (tokens text.now) }
 {
     let (star, text) = next_token(text)?;
     let (from, text) = next_token(text)?;
@@ -188,19 +188,19 @@ fn select_words(text: &[u8]) -> Option<&[u8]>
     }
 }
 
-fn select_of(alloc: Global, text: &[u8]) -> Result<Option<Ast>, AllocError>
+fn select_of(alloc: Global, text: &[u8]) -> Result<Option<Built>, AllocError>
     ensures { IfOk result (λ tree. tree ≡ select_of (tokens text.now)) }
 {
     let Some(table) = select_words(text) else {
         return Ok(None);
     };
-    Ok(Some(Ast::SelectAll {
+    Ok(Some(Built::SelectAll {
         table: Bytes::from_slice(alloc, table)?,
     }))
 }
 
 /// The tree of a statement's text, `None` where it has none; `Err` only for want of memory.
-pub fn tree_of(alloc: Global, text: &[u8]) -> Result<Option<Ast>, AllocError>
+pub fn tree_of(alloc: Global, text: &[u8]) -> Result<Option<Built>, AllocError>
     ensures { IfOk result (λ tree. tree ≡ tree_of text.now) }
 {
     let Some((first, behind)) = next_token(text) else {

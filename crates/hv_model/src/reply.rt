@@ -11,6 +11,26 @@ use std::alloc::AllocError;
 pub enum Refusal {
     /// The statement isn't built yet.
     Unbuilt,
+    /// The token at this byte, or the text's end, is the first with which no statement goes on.
+    Syntax { byte: u32 },
+    /// A table that doesn't stand, where its name begins.
+    NoTable { byte: u32 },
+    /// A fifth FROM place, where its table's name begins.
+    TooManyPlaces { byte: u32 },
+    /// A second FROM place of this alias, where the alias begins.
+    DuplicateAlias { byte: u32 },
+    /// A reference to no column, where it begins.
+    NoColumn { byte: u32 },
+    /// A reference without an alias to columns of two places, where it begins.
+    Ambiguous { byte: u32 },
+    /// A comparison of a number with a text, at its symbol; or the sum of a column of texts, at the reference.
+    TypeMismatch { byte: u32 },
+    /// A column that isn't a group column, at the reference or at the `*`.
+    NotGrouped { byte: u32 },
+    /// An order key that names no item, where the key begins.
+    NoOutput { byte: u32 },
+    /// SUM, MIN or MAX over no combination, without GROUP BY.
+    EmptyAggregate,
 }
 
 /// Why a page of a chunk does not serve.

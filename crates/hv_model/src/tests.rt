@@ -23,22 +23,22 @@ fn push_column(told: &mut String, column: &Column) -> Result<(), Fail> {
 }
 
 // A tree in one line, as `create t a:int b:text`; `none` where there is none.
-fn told(alloc: Global, tree: &Option<Ast>) -> Result<String, Fail> {
+fn told(alloc: Global, tree: &Option<Built>) -> Result<String, Fail> {
     let mut told = String::new(alloc);
     match tree {
-        Some(Ast::Create { table, columns }) => {
+        Some(Built::Create { table, columns }) => {
             told.push_str("create")?;
             push_bytes(&mut told, table)?;
             for column in columns.as_slice() {
                 push_column(&mut told, column)?;
             }
         }
-        Some(Ast::Import { table, lines }) => {
+        Some(Built::Import { table, lines }) => {
             told.push_str("import")?;
             push_bytes(&mut told, table)?;
             told.push_str(format!(in alloc; " {lines}")?.as_str())?;
         }
-        Some(Ast::SelectAll { table }) => {
+        Some(Built::SelectAll { table }) => {
             told.push_str("select")?;
             push_bytes(&mut told, table)?;
         }

@@ -1,13 +1,123 @@
-// The tree of a statement.
-use hv_row::{Bytes, Columns};
+// Trees of statements. A byte is the place of the first byte of what it belongs to, in its statement.
+use hv_row::{Bytes, Columns, Listed, Value};
+use sqlite_items::{Boxed, Items};
 
-/// What a statement's text says, as far as it is built.
+/// A name in a statement.
+#[derive(Debug, PartialEq, Drop)]
+pub struct Word {
+    pub name: Bytes,
+    pub byte: u32,
+}
+
+/// Numbers in order.
+pub type Numbers = Listed<u64>;
+
+/// A statement.
 #[derive(Debug, Drop)]
 pub enum Ast {
-    /// `CREATE TABLE table ( columns )`.
-    Create { table: Bytes, columns: Columns },
-    /// `IMPORT INTO table LINES lines`; a number over 1,000,000 is kept as 1,000,001.
-    Import { table: Bytes, lines: u32 },
-    /// `SELECT * FROM table`.
-    SelectAll { table: Bytes },
+    Create { table: Word, columns: Columns },
+    Import { table: Word, lines: u64 },
+    Purge { chunk: u64, table: Word },
+    Merge { parts: Numbers, table: Word },
+    Session { name: Word },
+    Barrier,
+    Select(SelectAst),
+}
+
+/// A select: without WHERE the condition is `Always`, and without GROUP BY or ORDER BY that list is empty.
+#[derive(Debug, Drop)]
+pub struct SelectAst {
+    pub items: ItemAsts,
+    pub places: PlaceAsts,
+    pub cond: CondAst,
+    pub groups: RefAsts,
+    pub order: KeyAsts,
+    pub limit: Option<u64>,
+}
+
+/// A reference to a column, with the alias before its dot.
+#[derive(Debug, PartialEq, Drop)]
+pub struct RefAst {
+    pub alias: Option<Bytes>,
+    pub column: Bytes,
+    pub byte: u32,
+}
+
+/// References in order.
+pub type RefAsts = Listed<RefAst>;
+
+/// What is selected.
+#[derive(Debug, PartialEq, Drop)]
+pub enum ItemAst {
+    Star { byte: u32 },
+    Col(RefAst),
+    Count,
+    CountOf(RefAst),
+    Sum(RefAst),
+    Least(RefAst),
+    Greatest(RefAst),
+}
+
+/// Items in order.
+pub type ItemAsts = Listed<ItemAst>;
+
+/// A FROM place: its table, and its alias where one is written.
+#[derive(Debug, PartialEq, Drop)]
+pub struct PlaceAst {
+    pub table: Word,
+    pub alias: Option<Word>,
+}
+
+/// Places in order.
+pub type PlaceAsts = Listed<PlaceAst>;
+
+/// What an order key names: an item by number, or a column.
+#[derive(Debug, PartialEq, Drop)]
+pub enum KeyBy {
+    Number(u64),
+    Col(RefAst),
+}
+
+/// An order key; `down` with DESC.
+#[derive(Debug, PartialEq, Drop)]
+pub struct KeyAst {
+    pub by: KeyBy,
+    pub byte: u32,
+    pub down: bool,
+}
+
+/// Order keys in order.
+pub type KeyAsts = Listed<KeyAst>;
+
+/// How two operands are compared.
+#[derive(Debug, Clone, Copy, PartialEq, Eq)]
+pub enum Cmp {
+    Eq,
+    Ne,
+    Lt,
+    Le,
+    Gt,
+    Ge,
+}
+
+/// One side of a comparison.
+#[derive(Debug, PartialEq, Drop)]
+pub enum OperandAst {
+    Col(RefAst),
+    Lit(Value),
+}
+
+/// A condition; `byte` is the comparison symbol's.
+#[derive(Debug, Drop)]
+pub enum CondAst {
+    Always,
+    Test {
+        left: OperandAst,
+        cmp: Cmp,
+        right: OperandAst,
+        byte: u32,
+    },
+    All(Items<CondAst>),
+    Any(Items<CondAst>),
+    Not(Boxed<CondAst>),
 }

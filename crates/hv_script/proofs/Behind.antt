@@ -1,7 +1,7 @@
 -- One more statement, and faults behind statements.
 use Rattle.std.proofs.Common.{◌≡◌, ℕ, zero, suc, ◌+◌, ◌<◌, ◌≤◌, true, false, ◌||◌, cond, eqb, List, [], ◌∷◌, ◌++◌, length, Option, Some, None, codes, refl, ◌∙◌, ap, arith, length-append}
 use Rattle.hv_model.specs.Script.{most_bytes, Statements, Takes, TakesLines, data_behind, data_from, behind_gap, behind_return, lines_wanted}
-use Rattle.hv_model.specs.Tree.{tree_of}
+use Rattle.hv_model.specs.Built.{tree_of}
 use Rattle.hv_model.specs.declared.script.Statement.{Statement}
 use Rattle.hv_model.specs.declared.script.FaultName.TheVariants.{ShortImport}
 use Rattle.hv_script.specs.declared.fault.BytesFault.{BytesFault}

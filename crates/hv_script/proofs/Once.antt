@@ -2,7 +2,7 @@
 use Rattle.std.proofs.Common.{◌≡◌, ℕ, ◌+◌, ◌<◌, ◌≤◌, true, false, List, [], ◌∷◌, ◌++◌, length, IsSome, refl, sym, ◌∙◌, ap, subst, arith}
 use Rattle.std.specs.List.{list_all}
 use Rattle.hv_model.specs.Script.{most_bytes, is_blank, quoted_behind, line_list, data_behind, lines_wanted, IsText, TakesLines, Takes, Statements, IsUnended, IsShortImport}
-use Rattle.hv_model.specs.Tree.{tree_of}
+use Rattle.hv_model.specs.Built.{tree_of}
 use Rattle.hv_model.specs.declared.script.Statement.{Statement}
 use Rattle.hv_model.specs.declared.script.Script.{Script}
 use Rattle.hv_model.specs.declared.script.FaultName.TheVariants.{TooLong, Unended, ShortImport}

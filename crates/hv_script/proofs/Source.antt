@@ -6,9 +6,9 @@ use Rattle.std.specs.Result.{IsErrAnd}
 use Rattle.std.proofs.lemmas.List.{append-nil, take-append-drop}
 use Rattle.hv_io.specs.Bytes.{Consumes, Given, Gives}
 use Rattle.hv_model.specs.Script.{most_bytes, Statements, Takes, line_list, IsScript, IsFault, IsUnended, IsShortImport, lines_wanted}
-use Rattle.hv_model.specs.Tree.{tree_of}
-use Rattle.hv_model.specs.declared.tree.Ast.{Ast}
-use Rattle.hv_model.specs.declared.tree.Ast.TheVariants.{Create, Import, SelectAll}
+use Rattle.hv_model.specs.Built.{tree_of}
+use Rattle.hv_model.specs.declared.built.Built.{Built}
+use Rattle.hv_model.specs.declared.built.Built.TheVariants.{Create, Import, SelectAll}
 use Rattle.hv_model.specs.declared.script.Statement.{Statement}
 use Rattle.hv_model.specs.declared.script.Script.{Script}
 use Rattle.hv_model.specs.declared.script.FaultName.{FaultName}
@@ -101,7 +101,7 @@ wanted_if : (lines : ℕ) (few : Bool) → nat_le lines 1000000 ≡ few → cond
 wanted_if lines true e = leb-true lines 1000000 e
 wanted_if lines false e = omega arith
 
-wanted_few : (tree : Option Ast) → lines_wanted tree ≤ 1000000
+wanted_few : (tree : Option Built) → lines_wanted tree ≤ 1000000
 wanted_few (Some (Import name lines)) = wanted_if lines (nat_le lines 1000000) refl
 wanted_few (Some (Create name columns)) = omega arith
 wanted_few (Some (SelectAll name)) = omega arith

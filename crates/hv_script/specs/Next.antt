@@ -2,7 +2,7 @@
 use Rattle.std.specs.Prelude.{◌≡◌, ◌<◌, ℕ, true, false, List, ◌∷◌, ◌++◌, length, IsSome}
 use Rattle.std.specs.List.{list_all}
 use Rattle.hv_model.specs.Script.{is_blank, begins_unblank, quoted_behind, IsText, TakesLines, line_list, data_behind, lines_wanted}
-use Rattle.hv_model.specs.Tree.{tree_of}
+use Rattle.hv_model.specs.Built.{tree_of}
 use Rattle.hv_script.specs.declared.statement.Next.{Next}
 use Rattle.hv_script.specs.declared.statement.Next.TheVariants.{End, Unended, Short, Found}
 

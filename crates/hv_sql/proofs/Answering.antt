@@ -1,12 +1,12 @@
 -- What the reading of the rules gives is what the grammar says.
 use Rattle.std.proofs.Common.{ℕ, List, sym, ◌∙◌, ap}
 use Rattle.std.specs.Prelude.{Result, Ok, Err, IfOk, IfErr}
-use Rattle.hv_sql.specs.declared.lexeme.Lexeme.{Lexeme}
-use Rattle.hv_sql.specs.declared.tree.Ast.{Ast}
+use Rattle.hv_model.specs.declared.lexeme.Lexeme.{Lexeme}
+use Rattle.hv_model.specs.declared.tree.Ast.{Ast}
 use Rattle.hv_sql.specs.declared.parsing.SqlFault.{SqlFault}
 use Rattle.hv_sql.specs.declared.parsing.SqlFault.TheVariants.{Syntax, Memory}
-use Rattle.hv_sql.specs.Fault.{IsStatement, IsFault, place_of}
-use Rattle.hv_sql.specs.Laws.{tree_at}
+use Rattle.hv_model.specs.Fault.{IsStatement, IsFault, place_of}
+use Rattle.hv_model.specs.SqlReading.{tree_at}
 use Rattle.hv_sql.specs.Answer.{Answers, IsTree, IsSyntax, Explains}
 use Rattle.hv_sql.proofs.OneReading.{trees_sound, trees_complete, faults_sound, faults_complete, ok_is, err_is, not_both}
 

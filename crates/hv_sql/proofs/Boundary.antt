@@ -9,7 +9,7 @@ use Rattle.std.specs.Prelude.{nat_eq}
 use Rattle.std.specs.Cmp.Lexicographic.{pointwise}
 use Rattle.hv_model.specs.declared.lexeme.Token.{Token}
 use Rattle.hv_model.specs.Token.{is_digit, begins_name, is_name_byte}
-use Rattle.hv_sql.specs.Lexemes.{symbol_spelling, all_symbols, is_symbol, is_lexeme, closes, sort_of, token_length, token_at}
+use Rattle.hv_model.specs.Lexemes.{symbol_spelling, all_symbols, is_symbol, is_lexeme, closes, sort_of, token_length, token_at}
 use Rattle.hv_sql.proofs.LexingClasses.{any_with, lexeme-name, lexeme-digit, lexeme-quote, lexeme-other}
 use Rattle.hv_sql.proofs.LexingLengths.{token_length_is}
 use Rattle.hv_sql.proofs.LexingLaws.{is_longest}

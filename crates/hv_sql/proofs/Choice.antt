@@ -2,12 +2,12 @@
 use Rattle.std.proofs.Common.{◌≡◌, ◌⊎◌, ℕ, Bool, true, false, List, [], ◌∷◌, ◌++◌, refl, sym, ◌∙◌, ap, subst, inl, inr}
 use Rattle.std.specs.Prelude.{◌==◌, Option, Some, None, Ok, Err, if◌then◌else◌}
 use Rattle.std.proofs.lemmas.Bool.{cases_Bool, eqb-true}
-use Rattle.hv_sql.specs.declared.lexeme.Lexeme.{Lexeme}
-use Rattle.hv_sql.specs.declared.lexeme.What.{What}
-use Rattle.hv_sql.specs.Terminals.{kind}
-use Rattle.hv_sql.specs.Grammar as g
-use Rattle.hv_sql.specs.Grammar.{Grammar, ◌or◌, gives, one, more}
-use Rattle.hv_sql.specs.Reading.{Reader, on_read, ◌>>=◌, gives_at, read_one, one_at, choose}
+use Rattle.hv_model.specs.declared.lexeme.Lexeme.{Lexeme}
+use Rattle.hv_model.specs.declared.lexeme.What.{What}
+use Rattle.hv_model.specs.Terminals.{kind}
+use Rattle.hv_model.specs.Grammar as g
+use Rattle.hv_model.specs.Grammar.{Grammar, ◌or◌, gives, one, more}
+use Rattle.hv_model.specs.Reading.{Reader, on_read, ◌>>=◌, gives_at, read_one, one_at, choose}
 use Rattle.hv_sql.proofs.KindSets.{member, joined, when, Avoids, Begins, or-both, or-cases, or-neither, member-joined_left, member-joined_right, Within-Avoids, Within-Begins}
 use Rattle.hv_sql.proofs.Lawful.{Took, Failed, Lawful, LawfulBy, head_is, ok_no_err, fault_is}
 

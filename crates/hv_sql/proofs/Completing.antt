@@ -8,10 +8,10 @@ use Rattle.std.proofs.lemmas.List.{take-append-le, take-append-drop, map-append}
 use Rattle.std.proofs.Math.Seq.{take-append_seam}
 use Rattle.std.proofs.lemmas.List.{append_cancel_right}
 use Rattle.hv_model.specs.declared.lexeme.Token.{Token}
-use Rattle.hv_sql.specs.declared.lexeme.Lexeme.{Lexeme}
-use Rattle.hv_sql.specs.Lexemes.{tokens_from, tokens_of, InOrder}
-use Rattle.hv_sql.specs.Lexed.{what_of, lexeme_of, lexemes_of, lexemes}
-use Rattle.hv_sql.specs.Fault.{IsStatement, IsFaultBy, place_of}
+use Rattle.hv_model.specs.declared.lexeme.Lexeme.{Lexeme}
+use Rattle.hv_model.specs.Lexemes.{tokens_from, tokens_of, InOrder}
+use Rattle.hv_model.specs.Lexed.{what_of, lexeme_of, lexemes_of, lexemes}
+use Rattle.hv_model.specs.Fault.{IsStatement, IsFaultBy, place_of}
 use Rattle.hv_sql.specs.Completion.{before, Completed, FaultsCompleted, FaultsFinal}
 use Rattle.hv_sql.proofs.Plain.{is_plain}
 use Rattle.hv_sql.proofs.LexingLaws.{tokens_in_order}

@@ -3,7 +3,7 @@ use Rattle.std.proofs.Common.{◌≡◌, ℕ, ◌+◌, ◌-◌, ◌<◌, ◌≤�
 use Rattle.std.proofs.lemmas.Bool.{cases_Bool, cond-true, cond-false}
 use Rattle.hv_model.specs.declared.lexeme.Token.{Token}
 use Rattle.hv_model.specs.Token.{is_white}
-use Rattle.hv_sql.specs.Lexemes.{token_length, token_at, tokens_from}
+use Rattle.hv_model.specs.Lexemes.{token_length, token_at, tokens_from}
 use Rattle.hv_sql.proofs.LexingLengths.{token_length_some, token_length_within}
 use Rattle.hv_sql.proofs.Boundary.{Apart, token_again, token_kept}
 

@@ -1,11 +1,11 @@
 -- Symbols and keywords have kinds of their own.
 use Rattle.std.proofs.Common.{◌≡◌, ◌≤◌, List, [], ◌∷◌, refl, sym, ◌∙◌, ap, arith}
 use Rattle.std.specs.Prelude.{Some, slice_get}
-use Rattle.hv_sql.specs.declared.lexeme.What.{What}
-use Rattle.hv_sql.specs.declared.lexeme.What.TheVariants as what
-use Rattle.hv_sql.specs.declared.words.Keyword.TheVariants as k
-use Rattle.hv_sql.specs.declared.words.Symbol.TheVariants as s
-use Rattle.hv_sql.specs.Terminals.{kind_of, KindsApart}
+use Rattle.hv_model.specs.declared.lexeme.What.{What}
+use Rattle.hv_model.specs.declared.lexeme.What.TheVariants as what
+use Rattle.hv_model.specs.declared.lexeme.Keyword.TheVariants as k
+use Rattle.hv_model.specs.declared.lexeme.Symbol.TheVariants as s
+use Rattle.hv_model.specs.Terminals.{kind_of, KindsApart}
 
 -- every symbol and keyword at its kind, and `Other` between them
 at_kinds : List What

@@ -2,12 +2,12 @@
 use Rattle.std.proofs.Common.{◌≡◌, ◌⊎◌, ℕ, Bool, true, false, List, [], ◌∷◌, ◌++◌, refl, sym, ◌∙◌, ap, subst, inl, inr}
 use Rattle.std.specs.Prelude.{Option, Some, None, Ok, Err}
 use Rattle.std.specs.List.{list_all}
-use Rattle.hv_sql.specs.declared.lexeme.Lexeme.{Lexeme}
-use Rattle.hv_sql.specs.declared.lexeme.What.{What}
-use Rattle.hv_sql.specs.Terminals.{kind, whats}
+use Rattle.hv_model.specs.declared.lexeme.Lexeme.{Lexeme}
+use Rattle.hv_model.specs.declared.lexeme.What.{What}
+use Rattle.hv_model.specs.Terminals.{kind, whats}
 use Rattle.hv_sql.proofs.Plain.{is_plain}
-use Rattle.hv_sql.specs.Grammar.{Grammar, gives, one}
-use Rattle.hv_sql.specs.Reading.{Read, Reader, gives_at, read_one, one_at}
+use Rattle.hv_model.specs.Grammar.{Grammar, gives, one}
+use Rattle.hv_model.specs.Reading.{Read, Reader, gives_at, read_one, one_at}
 use Rattle.hv_sql.proofs.KindSets.{member, Avoids, Begins, Within, Within-Avoids, Within-Begins}
 
 -- ---- results

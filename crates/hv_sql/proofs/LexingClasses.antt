@@ -6,7 +6,7 @@ use Rattle.std.proofs.lemmas.Bool.{and_parts, or_cases, false_from_ne_true, fals
 use Rattle.std.proofs.lemmas.Bool.Decides.{nat_tests}
 use Rattle.std.proofs.lemmas.Slice.Eq.{bytes_eq-Decides}
 use Rattle.hv_model.specs.Token.{is_digit, begins_name, is_name_byte, is_keyword, is_number, is_word}
-use Rattle.hv_sql.specs.Lexemes.{keyword_spelling, all_keywords, symbol_spelling, all_symbols, is_symbol, is_run, is_quoted, closes, is_lexeme}
+use Rattle.hv_model.specs.Lexemes.{keyword_spelling, all_keywords, symbol_spelling, all_symbols, is_symbol, is_run, is_quoted, closes, is_lexeme}
 
 -- `find` finds where `any` holds
 find_any : {X : Type 0} (test : X → Bool) (xs : List X) → is_some (find test xs) ≡ list_any test xs

@@ -8,7 +8,7 @@ use Rattle.hv_model.specs.declared.lexeme.Sort.{Sort}
 use Rattle.hv_model.specs.declared.lexeme.Sort.TheVariants.{Name, Keyword, Number, Text, Symbol, Other}
 use Rattle.hv_model.specs.declared.lexeme.Token.{Token}
 use Rattle.hv_model.specs.Token.{is_white, is_name_byte, begins_as_name, is_keyword, is_number}
-use Rattle.hv_sql.specs.Lexemes.{is_run, is_text, is_quoted, closes, is_symbol, is_lexeme, longest, token_length, sort_of, token_at, tokens_from, tokens_of, unquoted, text_value, doubled, quoted, IsA, IsOf, IsLongest, InOrder, WhiteBetween, EachToken}
+use Rattle.hv_model.specs.Lexemes.{is_run, is_text, is_quoted, closes, is_symbol, is_lexeme, longest, token_length, sort_of, token_at, tokens_from, tokens_of, unquoted, text_value, doubled, quoted, IsA, IsOf, IsLongest, InOrder, WhiteBetween, EachToken}
 use Rattle.hv_sql.proofs.LexingLengths.{token_length_some, token_length_within}
 use Rattle.hv_sql.proofs.LexingSorts.{choice, sort_is, keyword_run}
 

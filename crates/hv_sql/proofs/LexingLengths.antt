@@ -4,7 +4,7 @@ use Rattle.std.specs.List.{list_all, prefix_len}
 use Rattle.std.proofs.lemmas.Bool.{cases_eq, cases_lt, cases_Bool, cond-true, cond-false, cond_both}
 use Rattle.std.proofs.lemmas.List.Sums.{prefix_len-le-length}
 use Rattle.hv_model.specs.Token.{is_digit, begins_name, is_name_byte}
-use Rattle.hv_sql.specs.Lexemes.{is_symbol, closes, is_lexeme, longest, token_length}
+use Rattle.hv_model.specs.Lexemes.{is_symbol, closes, is_lexeme, longest, token_length}
 use Rattle.hv_sql.proofs.LexingClasses.{lexeme-name, lexeme-digit, lexeme-quote, lexeme-other, symbol_short}
 
 -- the longest is the one that no longer one is beside

@@ -2,7 +2,7 @@
 use Rattle.std.proofs.Common.{◌≡◌, ℕ, ◌+◌, ◌-◌, ◌<◌, ◌≤◌, zero, suc, Bool, true, false, not, List, [], ◌∷◌, ◌++◌, length, take, drop, get_or, refl, ap, sym, ◌∙◌, subst, inl, inr, append_assoc, append-nil, arith, ne_eqb, take-add}
 use Rattle.std.proofs.lemmas.Bool.{cases_lt, false≢true}
 use Rattle.std.proofs.lemmas.List.{take_more, drop_more}
-use Rattle.hv_sql.specs.Lexemes.{closes}
+use Rattle.hv_model.specs.Lexemes.{closes}
 
 -- the first bytes leave us with `pending`, and of them a text goes up to `end`
 pub record SoFar (bytes : List ℕ) (at end : ℕ) (pending : Bool) : Type 0 where

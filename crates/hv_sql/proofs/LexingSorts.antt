@@ -8,7 +8,7 @@ use Rattle.std.proofs.lemmas.Bool.Decides.{nat_tests}
 use Rattle.hv_model.specs.declared.lexeme.Sort.{Sort}
 use Rattle.hv_model.specs.declared.lexeme.Sort.TheVariants.{Name, Keyword, Number, Text, Symbol, Other}
 use Rattle.hv_model.specs.Token.{begins_name, is_name_byte, is_keyword, is_number, is_word}
-use Rattle.hv_sql.specs.Lexemes.{keyword_spelling, all_keywords, is_symbol, is_run, is_text, sort_of}
+use Rattle.hv_model.specs.Lexemes.{keyword_spelling, all_keywords, is_symbol, is_run, is_text, sort_of}
 use Rattle.hv_sql.proofs.LexingClasses.{any_with, run_alone}
 
 -- the choice of a sort by the tests

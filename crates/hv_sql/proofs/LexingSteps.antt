@@ -4,7 +4,7 @@ use Rattle.std.proofs.lemmas.Bool.{cond-true, cond-false}
 use Rattle.std.proofs.lemmas.List.{drop_more}
 use Rattle.hv_model.specs.declared.lexeme.Token.{Token}
 use Rattle.hv_model.specs.Token.{is_white}
-use Rattle.hv_sql.specs.Lexemes.{token_length, token_at, tokens_from}
+use Rattle.hv_model.specs.Lexemes.{token_length, token_at, tokens_from}
 use Rattle.hv_sql.proofs.LexingLengths.{token_length_some}
 
 -- the bytes of the token before are passed over

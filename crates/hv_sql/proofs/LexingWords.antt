@@ -4,11 +4,11 @@ use Rattle.std.specs.List.{find}
 use Rattle.std.specs.Cmp.Lexicographic.{pointwise}
 use Rattle.std.proofs.lemmas.Bool.{cases_Bool, cond-true, cond-false}
 use Rattle.std.proofs.lemmas.Slice.Eq.{bytes_eq-Decides}
-use Rattle.hv_sql.specs.declared.words.Keyword.{Keyword}
-use Rattle.hv_sql.specs.declared.words.Keyword.TheVariants as word
-use Rattle.hv_sql.specs.declared.words.Symbol.{Symbol}
-use Rattle.hv_sql.specs.declared.words.Symbol.TheVariants as symbol
-use Rattle.hv_sql.specs.Lexemes.{keyword_spelling, keyword_of, symbol_spelling, symbol_of, all_symbols}
+use Rattle.hv_model.specs.declared.lexeme.Keyword.{Keyword}
+use Rattle.hv_model.specs.declared.lexeme.Keyword.TheVariants as word
+use Rattle.hv_model.specs.declared.lexeme.Symbol.{Symbol}
+use Rattle.hv_model.specs.declared.lexeme.Symbol.TheVariants as symbol
+use Rattle.hv_model.specs.Lexemes.{keyword_spelling, keyword_of, symbol_spelling, symbol_of, all_symbols}
 
 pub keyword_spelled : (w : Keyword) → keyword_of (keyword_spelling w) ≡ Some w
 keyword_spelled word.And = refl

@@ -22,3 +22,4 @@ mod Boundary
 mod Cut
 mod Spelt
 pub mod Completing
+pub mod WordLengths

@@ -2,11 +2,11 @@
 use Rattle.std.proofs.Common.{◌≡◌, ℕ, zero, suc, ◌<◌, ◌≤◌, ◌+◌, Bool, true, false, not, ◌&&◌, ◌||◌, List, [], ◌∷◌, ◌++◌, length, refl, sym, ◌∙◌, ap, subst, inl, inr, append-nil, length-append, arith}
 use Rattle.std.specs.Prelude.{◌==◌, Some, None, Ok, Err, if◌then◌else◌}
 use Rattle.std.proofs.lemmas.List.{append_cancel_right}
-use Rattle.hv_sql.specs.declared.lexeme.Lexeme.{Lexeme}
-use Rattle.hv_sql.specs.declared.lexeme.What.{What}
-use Rattle.hv_sql.specs.Terminals.{kind}
-use Rattle.hv_sql.specs.Grammar.{Grammar, More, optional, given, more_up_to, more, list_of, list_of_up_to}
-use Rattle.hv_sql.specs.Reading.{Read, Reader, on_read, ◌>>=◌, gives_at, optional_at, given_at, more_up_to_at, more_at, list_of_at, list_of_up_to_at}
+use Rattle.hv_model.specs.declared.lexeme.Lexeme.{Lexeme}
+use Rattle.hv_model.specs.declared.lexeme.What.{What}
+use Rattle.hv_model.specs.Terminals.{kind}
+use Rattle.hv_model.specs.Grammar.{Grammar, More, optional, given, more_up_to, more, list_of, list_of_up_to}
+use Rattle.hv_model.specs.Reading.{Read, Reader, on_read, ◌>>=◌, gives_at, optional_at, given_at, more_up_to_at, more_at, list_of_at, list_of_up_to_at}
 use Rattle.hv_sql.proofs.KindSets.{member, joined, apart, within, Avoids, Begins, or-left, or-right, or-cases, member-joined_left, member-joined_cases, within-member, Within}
 use Rattle.hv_sql.proofs.Lawful.{Took, Failed, Lawful, weaken, no_whats, gives_lawful}
 use Rattle.hv_sql.proofs.Sequence.{seq, seq_}

@@ -1,8 +1,8 @@
 -- A list that is read in a loop: what stands behind a list so far, read further.
 use Rattle.std.proofs.Common.{◌≡◌, ℕ, zero, suc, ◌-◌, ◌<◌, true, false, List, [], ◌∷◌, ◌++◌, refl, sym, ◌∙◌, ap, append_assoc, append-nil, arith}
 use Rattle.std.specs.Prelude.{Ok, Err, if◌then◌else◌}
-use Rattle.hv_sql.specs.declared.lexeme.Lexeme.{Lexeme}
-use Rattle.hv_sql.specs.Reading.{Read, Reader, on_read, ◌>>=◌, gives_at, next_is, more_up_to_at}
+use Rattle.hv_model.specs.declared.lexeme.Lexeme.{Lexeme}
+use Rattle.hv_model.specs.Reading.{Read, Reader, on_read, ◌>>=◌, gives_at, next_is, more_up_to_at}
 use Rattle.hv_sql.specs.declared.stop.Stop.{Stop}
 use Rattle.hv_sql.specs.declared.stop.Stop.TheVariants.{Memory, At}
 use Rattle.hv_sql.specs.Code.{Gives, with_front}

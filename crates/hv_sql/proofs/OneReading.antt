@@ -4,17 +4,19 @@ use Rattle.std.specs.Prelude.{Result, Ok, Err}
 use Rattle.std.specs.List.{list_all}
 use Rattle.std.proofs.lemmas.Bool.{and_parts, eqb-true, false≢true}
 use Rattle.hv_model.specs.Token.{is_name, is_name_byte}
-use Rattle.hv_sql.specs.declared.lexeme.Lexeme.{Lexeme}
-use Rattle.hv_sql.specs.declared.lexeme.What.{What}
-use Rattle.hv_sql.specs.declared.lexeme.What.TheVariants as what
-use Rattle.hv_sql.specs.declared.tree.Ast.{Ast}
-use Rattle.hv_sql.specs.Terminals.{may_be}
+use Rattle.hv_model.specs.declared.lexeme.Lexeme.{Lexeme}
+use Rattle.hv_model.specs.declared.lexeme.What.{What}
+use Rattle.hv_model.specs.declared.lexeme.What.TheVariants as what
+use Rattle.hv_model.specs.declared.tree.Ast.{Ast}
+use Rattle.hv_model.specs.Terminals.{may_be}
 use Rattle.hv_sql.proofs.Plain.{is_a, is_plain}
-use Rattle.hv_sql.specs.Reading.{Read}
-use Rattle.hv_sql.specs.Sql.{statement}
-use Rattle.hv_sql.specs.SqlReading.{statement_at}
-use Rattle.hv_sql.specs.Fault.{IsStatement, IsFault, IsFaultBy}
-use Rattle.hv_sql.specs.Laws.{ended, to_end, tree_at, OneTree, TreesSound, TreesComplete, FaultsSound, FaultsComplete, OneFault, NoFaultToo}
+use Rattle.hv_model.specs.Reading.{Read}
+use Rattle.hv_model.specs.Sql.{statement}
+use Rattle.hv_model.specs.SqlReading.{statement_at}
+use Rattle.hv_model.specs.Fault.{IsStatement, IsFault, IsFaultBy}
+use Rattle.hv_sql.specs.Laws.{OneTree, TreesSound, TreesComplete, FaultsSound, FaultsComplete, OneFault, NoFaultToo}
+use Rattle.hv_model.specs.Reading.{ended, to_end}
+use Rattle.hv_model.specs.SqlReading.{tree_at}
 use Rattle.hv_sql.proofs.Lawful.{Took, Failed, placed, whats-placed, no_whats, rest_is, ok_no_err}
 use Rattle.hv_sql.proofs.RuleLaws.{statement_lawful}
 

@@ -1,8 +1,8 @@
 -- The words by which what was read is completed: the name `a`, the number 0, symbols and keywords. They are written without quotes.
 use Rattle.std.proofs.Common.{ℕ, Bool, true, false, List, [], ◌∷◌}
 use Rattle.std.specs.Prelude.{◌==◌}
-use Rattle.hv_sql.specs.declared.lexeme.What.{What}
-use Rattle.hv_sql.specs.declared.lexeme.What.TheVariants as what
+use Rattle.hv_model.specs.declared.lexeme.What.{What}
+use Rattle.hv_model.specs.declared.lexeme.What.TheVariants as what
 
 -- whether a name is `a`
 abbrev pub is_a : List ℕ → Bool

@@ -3,37 +3,37 @@ use Rattle.std.proofs.Common.{◌≡◌, ℕ, zero, suc, ◌^◌, Bool, true, fa
 use Rattle.std.specs.Prelude.{◌==◌, Some, None, nat_le, if◌then◌else◌}
 use Rattle.std.specs.Option.{option_map}
 use Rattle.std.proofs.lemmas.Bool.{eq-eqb}
-use Rattle.hv_sql.specs.declared.lexeme.Lexeme.{Lexeme}
-use Rattle.hv_sql.specs.declared.lexeme.What.{What}
-use Rattle.hv_sql.specs.declared.lexeme.What.TheVariants as what
-use Rattle.hv_sql.specs.declared.words.Keyword.{Keyword}
-use Rattle.hv_sql.specs.declared.words.Keyword.TheVariants as k
-use Rattle.hv_sql.specs.declared.words.Symbol.{Symbol}
-use Rattle.hv_sql.specs.declared.words.Symbol.TheVariants as s
-use Rattle.hv_sql.specs.declared.tree.Word.{Word}
-use Rattle.hv_sql.specs.declared.tree.Cmp.{Cmp}
-use Rattle.hv_sql.specs.declared.tree.Cmp.TheVariants as c
-use Rattle.hv_sql.specs.Terminals.{kind, kind_of, name_kind, number_kind, text_kind, keyword_kind, symbol_kind, of_kind, is_keyword, is_symbol, is_word, word_of, is_number, number_of, is_text, text_of, is_comparison, comparison_of, cmp_of}
-use Rattle.hv_sql.specs.Sql.{keyword, symbol, name, most_number, number, number_up_to, text, cmp, ref, ref_behind, is_aggregate, list_or_one, column_type, column, create, import, purge, part, merge, session, barrier, counted, count, ref_in, item, star, items, alias, place, places, negative, operand, test, conj, cond, negated, nested, term, where_part, group_part, groups_of, key_by, direction, key, limit_part, order_part, select, statement}
-use Rattle.hv_sql.specs.SqlReading.{deeper_at, keyword_at, symbol_at, name_at, number_at, number_up_to_at, text_at, cmp_at, ref_at, ref_behind_at, column_type_at, column_at, create_at, import_at, purge_at, part_at, merge_at, session_at, barrier_at, counted_at, count_at, ref_in_at, item_at, star_at, items_at, alias_at, place_at, places_at, negative_at, operand_at, test_at, conj_at, cond_at, negated_at, nested_at, term_at, where_part_at, group_part_at, groups_of_at, key_by_at, direction_at, key_at, limit_part_at, order_part_at, select_at, statement_at}
+use Rattle.hv_model.specs.declared.lexeme.Lexeme.{Lexeme}
+use Rattle.hv_model.specs.declared.lexeme.What.{What}
+use Rattle.hv_model.specs.declared.lexeme.What.TheVariants as what
+use Rattle.hv_model.specs.declared.lexeme.Keyword.{Keyword}
+use Rattle.hv_model.specs.declared.lexeme.Keyword.TheVariants as k
+use Rattle.hv_model.specs.declared.lexeme.Symbol.{Symbol}
+use Rattle.hv_model.specs.declared.lexeme.Symbol.TheVariants as s
+use Rattle.hv_model.specs.declared.tree.Word.{Word}
+use Rattle.hv_model.specs.declared.tree.Cmp.{Cmp}
+use Rattle.hv_model.specs.declared.tree.Cmp.TheVariants as c
+use Rattle.hv_model.specs.Terminals.{kind, kind_of, name_kind, number_kind, text_kind, keyword_kind, symbol_kind, of_kind, is_keyword, is_symbol, is_word, word_of, is_number, number_of, is_text, text_of, is_comparison, comparison_of, cmp_of}
+use Rattle.hv_model.specs.Sql.{keyword, symbol, name, most_number, number, number_up_to, text, cmp, ref, ref_behind, is_aggregate, list_or_one, column_type, column, create, import, purge, part, merge, session, barrier, counted, count, ref_in, item, star, items, alias, place, places, negative, operand, test, conj, cond, negated, nested, term, where_part, group_part, groups_of, key_by, direction, key, limit_part, order_part, select, statement}
+use Rattle.hv_model.specs.SqlReading.{deeper_at, keyword_at, symbol_at, name_at, number_at, number_up_to_at, text_at, cmp_at, ref_at, ref_behind_at, column_type_at, column_at, create_at, import_at, purge_at, part_at, merge_at, session_at, barrier_at, counted_at, count_at, ref_in_at, item_at, star_at, items_at, alias_at, place_at, places_at, negative_at, operand_at, test_at, conj_at, cond_at, negated_at, nested_at, term_at, where_part_at, group_part_at, groups_of_at, key_by_at, direction_at, key_at, limit_part_at, order_part_at, select_at, statement_at}
 use Rattle.hv_sql.proofs.Lawful.{Lawful, LawfulBy, gives_lawful, one_lawful}
 use Rattle.hv_sql.proofs.KindSets.{member, joined}
 use Rattle.hv_sql.proofs.Sequence.{seq, seq_}
 use Rattle.hv_sql.proofs.Choice.{either, either_one}
 use Rattle.hv_sql.proofs.Lists.{fits, optional_lawful, given_lawful, list_of_lawful, list_of_up_to_lawful}
-use Rattle.hv_sql.specs.Grammar.{Grammar}
-use Rattle.hv_sql.specs.Reading.{Reader}
+use Rattle.hv_model.specs.Grammar.{Grammar}
+use Rattle.hv_model.specs.Reading.{Reader}
 use Rattle.std.specs.Prelude.{pos, neg_ℤ}
 use Rattle.std.specs.List.{list_any}
 use Rattle.hv_row.specs.declared.value.Value.TheVariants.{Int, Text}
 use Rattle.hv_row.specs.declared.value.ColType.TheVariants as type
-use Rattle.hv_sql.specs.declared.tree.Ast.TheVariants as ast
-use Rattle.hv_sql.specs.declared.tree.ItemAst.TheVariants as it
-use Rattle.hv_sql.specs.declared.tree.PlaceAst.{PlaceAst}
-use Rattle.hv_sql.specs.declared.tree.KeyBy.TheVariants as by
-use Rattle.hv_sql.specs.declared.tree.OperandAst.TheVariants as operand_ast
-use Rattle.hv_sql.specs.declared.tree.CondAst.{CondAst}
-use Rattle.hv_sql.specs.declared.tree.CondAst.TheVariants as cond_ast
+use Rattle.hv_model.specs.declared.tree.Ast.TheVariants as ast
+use Rattle.hv_model.specs.declared.tree.ItemAst.TheVariants as it
+use Rattle.hv_model.specs.declared.tree.PlaceAst.{PlaceAst}
+use Rattle.hv_model.specs.declared.tree.KeyBy.TheVariants as by
+use Rattle.hv_model.specs.declared.tree.OperandAst.TheVariants as operand_ast
+use Rattle.hv_model.specs.declared.tree.CondAst.{CondAst}
+use Rattle.hv_model.specs.declared.tree.CondAst.TheVariants as cond_ast
 
 -- ---- terminals
 

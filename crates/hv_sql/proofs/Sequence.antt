@@ -3,12 +3,12 @@ use Rattle.std.proofs.Common.{◌≡◌, ◌⊎◌, ℕ, Bool, true, ◌&&◌, L
 use Rattle.std.specs.Prelude.{Ok, Err}
 use Rattle.std.specs.List.{list_all}
 use Rattle.std.proofs.lemmas.List.Folds.{list_all-append}
-use Rattle.hv_sql.specs.declared.lexeme.Lexeme.{Lexeme}
-use Rattle.hv_sql.specs.declared.lexeme.What.{What}
-use Rattle.hv_sql.specs.Terminals.{whats}
-use Rattle.hv_sql.specs.Grammar as g
-use Rattle.hv_sql.specs.Grammar.{Grammar, Then, More, gives, one, ◌or◌, optional, given, more_up_to, more, list_of, list_of_up_to}
-use Rattle.hv_sql.specs.Reading.{Read, Reader, on_read, ◌>>=◌, ◌>>◌}
+use Rattle.hv_model.specs.declared.lexeme.Lexeme.{Lexeme}
+use Rattle.hv_model.specs.declared.lexeme.What.{What}
+use Rattle.hv_model.specs.Terminals.{whats}
+use Rattle.hv_model.specs.Grammar as g
+use Rattle.hv_model.specs.Grammar.{Grammar, Then, More, gives, one, ◌or◌, optional, given, more_up_to, more, list_of, list_of_up_to}
+use Rattle.hv_model.specs.Reading.{Read, Reader, on_read, ◌>>=◌, ◌>>◌}
 use Rattle.hv_sql.proofs.KindSets.{joined, apart, when, Avoids, Begins, and-both, member-joined_left, member-joined_right, Within-Avoids, Within-Begins, apart-Avoids}
 use Rattle.hv_sql.proofs.Lawful.{fault_is, ok_no_err, Took, FailedBy, LawfulBy, placed, whats-placed}
 

@@ -7,13 +7,13 @@ use Rattle.std.proofs.lemmas.List.{length-append, take_all}
 use Rattle.std.proofs.lemmas.List.Folds.{list_all-append}
 use Rattle.std.proofs.Math.Seq.{take-append_seam, drop-append-add}
 use Rattle.hv_model.specs.declared.lexeme.Token.{Token}
-use Rattle.hv_sql.specs.declared.lexeme.What.{What}
-use Rattle.hv_sql.specs.declared.lexeme.What.TheVariants as what
-use Rattle.hv_sql.specs.declared.words.Keyword.TheVariants as k
-use Rattle.hv_sql.specs.declared.words.Symbol.TheVariants as s
-use Rattle.hv_sql.specs.Lexemes.{keyword_spelling, symbol_spelling, is_lexeme, is_run, is_symbol, sort_of, token_length, token_at, tokens_from}
-use Rattle.hv_sql.specs.Lexed.{what_of, lexeme_of, lexemes_of}
-use Rattle.hv_sql.specs.Terminals.{whats}
+use Rattle.hv_model.specs.declared.lexeme.What.{What}
+use Rattle.hv_model.specs.declared.lexeme.What.TheVariants as what
+use Rattle.hv_model.specs.declared.lexeme.Keyword.TheVariants as k
+use Rattle.hv_model.specs.declared.lexeme.Symbol.TheVariants as s
+use Rattle.hv_model.specs.Lexemes.{keyword_spelling, symbol_spelling, is_lexeme, is_run, is_symbol, sort_of, token_length, token_at, tokens_from}
+use Rattle.hv_model.specs.Lexed.{what_of, lexeme_of, lexemes_of}
+use Rattle.hv_model.specs.Terminals.{whats}
 use Rattle.hv_sql.proofs.Plain.{is_a, is_plain}
 use Rattle.hv_sql.proofs.Boundary.{quoteless, Apart}
 use Rattle.hv_sql.proofs.Cut.{cut}

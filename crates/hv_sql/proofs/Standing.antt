@@ -1,8 +1,8 @@
 -- The tokens of a text stand in it.
 use Rattle.std.proofs.Common.{◌≤◌, ℕ, List, [], ◌∷◌, length, arith}
 use Rattle.hv_model.specs.declared.lexeme.Token.{Token}
-use Rattle.hv_sql.specs.Lexemes.{tokens_of, InOrder, EachToken}
-use Rattle.hv_sql.specs.Lexed.{AllStandIn}
+use Rattle.hv_model.specs.Lexemes.{tokens_of, InOrder, EachToken}
+use Rattle.hv_model.specs.Lexed.{AllStandIn}
 use Rattle.hv_sql.proofs.LexingLaws.{tokens_in_order, tokens_longest}
 
 within_end : (at end : ℕ) (ts : List Token) → InOrder at end ts → at ≤ end

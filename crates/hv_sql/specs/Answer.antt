@@ -1,10 +1,10 @@
 -- What the parser answers.
 use Rattle.std.specs.Prelude.{◌≡◌, ℕ, ⊤, List, Result, Ok, Err}
-use Rattle.hv_sql.specs.declared.lexeme.Lexeme.{Lexeme}
-use Rattle.hv_sql.specs.declared.tree.Ast.{Ast}
+use Rattle.hv_model.specs.declared.lexeme.Lexeme.{Lexeme}
+use Rattle.hv_model.specs.declared.tree.Ast.{Ast}
 use Rattle.hv_sql.specs.declared.parsing.SqlFault.{SqlFault}
 use Rattle.hv_sql.specs.declared.parsing.SqlFault.TheVariants.{Syntax, Memory}
-use Rattle.hv_sql.specs.Fault.{IsFault, place_of}
+use Rattle.hv_model.specs.Fault.{IsFault, place_of}
 
 -- this tree and no other, unless memory runs out
 abbrev pub IsTree : Result Ast SqlFault → Ast → Type 0

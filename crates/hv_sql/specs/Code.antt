@@ -1,9 +1,9 @@
 -- What the functions that read lexemes give.
 use Rattle.std.specs.Prelude.{◌≡◌, ⊤, List, ◌++◌, Result, Ok, Err}
-use Rattle.hv_sql.specs.declared.lexeme.Lexeme.{Lexeme}
+use Rattle.hv_model.specs.declared.lexeme.Lexeme.{Lexeme}
 use Rattle.hv_sql.specs.declared.stop.Stop.{Stop}
 use Rattle.hv_sql.specs.declared.stop.Stop.TheVariants.{Memory, At}
-use Rattle.hv_sql.specs.Reading.{Read, on_read, gives_at}
+use Rattle.hv_model.specs.Reading.{Read, on_read, gives_at}
 
 -- what a reader gives, unless memory runs out
 abbrev pub Gives : {A : Type 0} → Result (A × List Lexeme) Stop → Read A → Type 0

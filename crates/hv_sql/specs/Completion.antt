@@ -1,11 +1,11 @@
 -- A text that completes what stands before a fault. This project's own.
 use Rattle.std.specs.Prelude.{◌≡◌, ℕ, nat_lt, List, [], ◌∷◌, ◌++◌, length, take, if◌then◌else◌}
 use Rattle.hv_model.specs.declared.lexeme.Token.{Token}
-use Rattle.hv_sql.specs.declared.lexeme.Lexeme.{Lexeme}
-use Rattle.hv_sql.specs.declared.tree.Ast.{Ast}
-use Rattle.hv_sql.specs.Lexemes.{tokens_of}
-use Rattle.hv_sql.specs.Lexed.{lexemes_of, lexemes}
-use Rattle.hv_sql.specs.Fault.{IsStatement, IsFault, place_of}
+use Rattle.hv_model.specs.declared.lexeme.Lexeme.{Lexeme}
+use Rattle.hv_model.specs.declared.tree.Ast.{Ast}
+use Rattle.hv_model.specs.Lexemes.{tokens_of}
+use Rattle.hv_model.specs.Lexed.{lexemes_of, lexemes}
+use Rattle.hv_model.specs.Fault.{IsStatement, IsFault, place_of}
 
 -- the tokens that begin before a byte, where tokens stand in order
 abbrev pub before : ℕ → List Token → List Token

@@ -1,24 +1,9 @@
 -- The laws of the language: lexemes are at most one statement, or have one fault. This project's own.
 use Rattle.std.specs.Prelude.{◌≡◌, List, [], ◌∷◌, Result, Ok, Err}
-use Rattle.hv_sql.specs.declared.lexeme.Lexeme.{Lexeme}
-use Rattle.hv_sql.specs.declared.tree.Ast.{Ast}
-use Rattle.hv_sql.specs.Reading.{Read}
-use Rattle.hv_sql.specs.SqlReading.{statement_at}
-use Rattle.hv_sql.specs.Fault.{IsStatement, IsFault}
-
--- a value where nothing is left, else the lexemes that are
-abbrev pub ended : {A : Type 0} → A → List Lexeme → Result A (List Lexeme)
-ended a [] = Ok a
-ended a (t ∷ us) = Err (t ∷ us)
-
--- what was read, if nothing is left
-abbrev pub to_end : {A : Type 0} → Read A → Result A (List Lexeme)
-to_end (Ok x) = ended x.0 x.1
-to_end (Err at) = Err at
-
--- the tree of lexemes, or the lexemes from the one at fault on
-abbrev pub tree_at : List Lexeme → Result Ast (List Lexeme)
-tree_at lexemes = to_end (statement_at lexemes)
+use Rattle.hv_model.specs.declared.lexeme.Lexeme.{Lexeme}
+use Rattle.hv_model.specs.declared.tree.Ast.{Ast}
+use Rattle.hv_model.specs.SqlReading.{tree_at}
+use Rattle.hv_model.specs.Fault.{IsStatement, IsFault}
 
 -- lexemes are at most one statement
 abbrev pub OneTree : Type 0

@@ -1,13 +1,6 @@
-pub mod Lexemes
-pub mod Lexed
 pub mod Next
-pub mod Terminals
-pub mod Grammar
-pub mod Sql
-pub mod Fault
-pub mod Reading
-pub mod SqlReading
 pub mod Laws
 pub mod Code
 pub mod Answer
 pub mod Completion
+pub mod Words

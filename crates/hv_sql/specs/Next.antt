@@ -1,12 +1,12 @@
 -- The next lexeme of a text.
 use Rattle.std.specs.Prelude.{◌≡◌, List, [], ◌∷◌, Option, Some, None}
-use Rattle.hv_sql.specs.declared.lexeme.Lexeme.{Lexeme}
-use Rattle.hv_sql.specs.declared.lexeme.What.{What}
-use Rattle.hv_sql.specs.declared.lexeme.What.TheVariants as what
+use Rattle.hv_model.specs.declared.lexeme.Lexeme.{Lexeme}
+use Rattle.hv_model.specs.declared.lexeme.What.{What}
+use Rattle.hv_model.specs.declared.lexeme.What.TheVariants as what
 use Rattle.hv_sql.specs.declared.rest.Seen.{Seen}
 use Rattle.hv_sql.specs.declared.rest.Seen.TheVariants as seen
 use Rattle.hv_sql.specs.declared.rest.Next.{Next}
-use Rattle.hv_sql.specs.Lexemes.{text_value}
+use Rattle.hv_model.specs.Lexemes.{text_value}
 
 -- what is seen in a text
 abbrev pub what_seen : Seen → What

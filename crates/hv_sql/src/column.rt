@@ -1,18 +1,18 @@
 // Columns of CREATE TABLE.
 ghost use Rattle.std.specs.Prelude.{◌≡◌};
-ghost use Rattle.hv_sql.specs.SqlReading.{column_type_at};
+ghost use Rattle.hv_model.specs.SqlReading.{column_type_at};
 ghost use Rattle.hv_sql.specs.Code.{Gives};
 
-use crate::Keyword;
 use crate::rest::Rest;
 use crate::rule::Rule;
 use crate::stop::Stop;
 use crate::terminal::{given, keyword, name, next_word};
+use hv_model::Keyword;
 use hv_row::{ColType, Column};
 use std::alloc::Global;
 
 /// `INT | TEXT`.
-#[tactic(auto, unfolding(crate::specs::SqlReading::column_type_at))]
+#[tactic(auto, unfolding(hv_model::specs::SqlReading::column_type_at))]
 fn column_type<'a>(lexemes: Rest<'a>) -> Result<(ColType, Rest<'a>), Stop<'a>>
     ensures { Gives result (column_type_at lexemes.entry) }
 {
@@ -26,12 +26,12 @@ fn column_type<'a>(lexemes: Rest<'a>) -> Result<(ColType, Rest<'a>), Stop<'a>>
 }
 
 impl Rule for Column {
-    ghost use Rattle.hv_sql.specs.SqlReading.{column_at};
+    ghost use Rattle.hv_model.specs.SqlReading.{column_at};
 
     ghost reader = { column_at };
 
     /// `name ( INT | TEXT ) [ INDEX ] [ RANGE ]`.
-    #[tactic(auto, unfolding(crate::specs::SqlReading::column_at))]
+    #[tactic(auto, unfolding(hv_model::specs::SqlReading::column_at))]
     fn read<'a>(alloc: Global, lexemes: Rest<'a>) -> Result<(Column, Rest<'a>), Stop<'a>> {
         let (word, rest) = name(alloc, lexemes)?;
         let (kind, rest) = column_type(rest)?;

@@ -1,18 +1,18 @@
 // Conditions, with NOT and parentheses nested to a depth.
 ghost use Rattle.std.specs.Prelude.{◌≡◌, [], ◌∷◌};
-ghost use Rattle.hv_sql.specs.Terminals as spec;
-ghost use Rattle.hv_sql.specs.Reading.{more_at};
-ghost use Rattle.hv_sql.specs.Sql.{list_or_one};
-ghost use Rattle.hv_sql.specs.SqlReading.{keyword_at, conj_at, cond_at, deeper_at, term_at, where_part_at};
+ghost use Rattle.hv_model.specs.Terminals as spec;
+ghost use Rattle.hv_model.specs.Reading.{more_at};
+ghost use Rattle.hv_model.specs.Sql.{list_or_one};
+ghost use Rattle.hv_model.specs.SqlReading.{keyword_at, conj_at, cond_at, deeper_at, term_at, where_part_at};
 ghost use Rattle.hv_sql.specs.Code.{Gives, with_front};
-ghost use Rattle.hv_sql.specs.declared.words.Keyword.TheVariants as k;
-ghost use Rattle.hv_sql.specs.declared.tree.CondAst.TheVariants as c;
+ghost use Rattle.hv_model.specs.declared.lexeme.Keyword.TheVariants as k;
+ghost use Rattle.hv_model.specs.declared.tree.CondAst.TheVariants as c;
 
 use crate::operand::test;
 use crate::rest::Rest;
 use crate::stop::Stop;
 use crate::terminal::{keyword, next_symbol, next_word, symbol};
-use crate::{CondAst, Keyword, Symbol};
+use hv_model::{CondAst, Keyword, Symbol};
 use sqlite_items::{Boxed, Items};
 use std::alloc::Global;
 
@@ -67,7 +67,7 @@ fn more_terms<'a>(
 
 /// `term { AND term }`.
 #[cycle(cond)]
-#[tactic(auto, unfolding(crate::specs::SqlReading::conj_at))]
+#[tactic(auto, unfolding(hv_model::specs::SqlReading::conj_at))]
 fn conj<'a>(alloc: Global, depth: u8, lexemes: Rest<'a>) -> Result<(CondAst, Rest<'a>), Stop<'a>>
     ensures { Gives result (conj_at (term_at depth) lexemes.entry) }
 {
@@ -102,7 +102,7 @@ fn more_conjs<'a>(
 
 /// `conj { OR conj }`.
 #[cycle(cond)]
-#[tactic(auto, unfolding(crate::specs::SqlReading::cond_at))]
+#[tactic(auto, unfolding(hv_model::specs::SqlReading::cond_at))]
 fn cond<'a>(alloc: Global, depth: u8, lexemes: Rest<'a>) -> Result<(CondAst, Rest<'a>), Stop<'a>>
     ensures { Gives result (cond_at (term_at depth) lexemes.entry) }
 {
@@ -113,7 +113,7 @@ fn cond<'a>(alloc: Global, depth: u8, lexemes: Rest<'a>) -> Result<(CondAst, Res
 
 /// `NOT term | ( cond ) | operand cmp operand`, over terms of a depth.
 #[cycle(cond)]
-#[tactic(auto, unfolding(crate::specs::SqlReading::deeper_at, crate::specs::SqlReading::negated_at, crate::specs::SqlReading::nested_at))]
+#[tactic(auto, unfolding(hv_model::specs::SqlReading::deeper_at, hv_model::specs::SqlReading::negated_at, hv_model::specs::SqlReading::nested_at))]
 fn deeper<'a>(alloc: Global, depth: u8, lexemes: Rest<'a>) -> Result<(CondAst, Rest<'a>), Stop<'a>>
     ensures { Gives result (deeper_at (term_at depth) lexemes.entry) }
 {
@@ -133,7 +133,7 @@ fn deeper<'a>(alloc: Global, depth: u8, lexemes: Rest<'a>) -> Result<(CondAst, R
 
 /// A term with at most so many NOT and open parentheses around each test.
 #[cycle(cond)]
-#[tactic(auto, unfolding(crate::specs::SqlReading::term_at))]
+#[tactic(auto, unfolding(hv_model::specs::SqlReading::term_at))]
 fn term<'a>(alloc: Global, depth: u8, lexemes: Rest<'a>) -> Result<(CondAst, Rest<'a>), Stop<'a>>
     ensures { Gives result (term_at depth lexemes.entry) }
 {
@@ -145,7 +145,7 @@ fn term<'a>(alloc: Global, depth: u8, lexemes: Rest<'a>) -> Result<(CondAst, Res
 }
 
 /// `[ WHERE cond ]`.
-#[tactic(auto, unfolding(crate::specs::SqlReading::where_part_at))]
+#[tactic(auto, unfolding(hv_model::specs::SqlReading::where_part_at))]
 pub fn where_part<'a>(alloc: Global, lexemes: Rest<'a>) -> Result<(CondAst, Rest<'a>), Stop<'a>>
     ensures { Gives result (where_part_at lexemes.entry) }
 {

@@ -1,8 +1,8 @@
 // The items of a select.
 ghost use Rattle.std.specs.Prelude.{◌≡◌, true};
 ghost use Rattle.std.specs.List.{list_any};
-ghost use Rattle.hv_sql.specs.Sql.{is_aggregate};
-ghost use Rattle.hv_sql.specs.SqlReading.{counted_at, count_at, ref_in_at, item_at, star_at, items_at};
+ghost use Rattle.hv_model.specs.Sql.{is_aggregate};
+ghost use Rattle.hv_model.specs.SqlReading.{counted_at, count_at, ref_in_at, item_at, star_at, items_at};
 ghost use Rattle.hv_sql.specs.Code.{Gives};
 
 use crate::reference::reference;
@@ -10,12 +10,12 @@ use crate::rest::Rest;
 use crate::rule::{Rule, list_of_up_to};
 use crate::stop::Stop;
 use crate::terminal::{keyword, next_symbol, next_word, symbol};
-use crate::{ItemAst, ItemAsts, Keyword, RefAst, Symbol};
+use hv_model::{ItemAst, ItemAsts, Keyword, RefAst, Symbol};
 use hv_row::Listed;
 use std::alloc::Global;
 
 /// `*` or a reference, within `COUNT ( )`.
-#[tactic(auto, unfolding(crate::specs::SqlReading::counted_at))]
+#[tactic(auto, unfolding(hv_model::specs::SqlReading::counted_at))]
 fn counted<'a>(alloc: Global, lexemes: Rest<'a>) -> Result<(ItemAst, Rest<'a>), Stop<'a>>
     ensures { Gives result (counted_at lexemes.entry) }
 {
@@ -29,7 +29,7 @@ fn counted<'a>(alloc: Global, lexemes: Rest<'a>) -> Result<(ItemAst, Rest<'a>), 
 }
 
 /// `COUNT ( * ) | COUNT ( ref )`.
-#[tactic(auto, unfolding(crate::specs::SqlReading::count_at))]
+#[tactic(auto, unfolding(hv_model::specs::SqlReading::count_at))]
 fn count<'a>(alloc: Global, lexemes: Rest<'a>) -> Result<(ItemAst, Rest<'a>), Stop<'a>>
     ensures { Gives result (count_at lexemes.entry) }
 {
@@ -41,7 +41,7 @@ fn count<'a>(alloc: Global, lexemes: Rest<'a>) -> Result<(ItemAst, Rest<'a>), St
 }
 
 /// A keyword, and a reference in parentheses.
-#[tactic(auto, unfolding(crate::specs::SqlReading::ref_in_at))]
+#[tactic(auto, unfolding(hv_model::specs::SqlReading::ref_in_at))]
 fn ref_in<'a>(
     alloc: Global,
     which: Keyword,
@@ -57,12 +57,12 @@ fn ref_in<'a>(
 }
 
 impl Rule for ItemAst {
-    ghost use Rattle.hv_sql.specs.SqlReading.{item_at};
+    ghost use Rattle.hv_model.specs.SqlReading.{item_at};
 
     ghost reader = { item_at };
 
     /// `ref | COUNT ( * ) | ( COUNT | SUM | MIN | MAX ) ( ref )`.
-    #[tactic(auto, unfolding(crate::specs::SqlReading::item_at))]
+    #[tactic(auto, unfolding(hv_model::specs::SqlReading::item_at))]
     fn read<'a>(alloc: Global, lexemes: Rest<'a>) -> Result<(ItemAst, Rest<'a>), Stop<'a>> {
         if next_word(Keyword::Count, &lexemes) {
             count(alloc, lexemes)
@@ -83,7 +83,7 @@ impl Rule for ItemAst {
 }
 
 /// `*`, as the one item.
-#[tactic(auto, unfolding(crate::specs::SqlReading::star_at))]
+#[tactic(auto, unfolding(hv_model::specs::SqlReading::star_at))]
 fn star<'a>(alloc: Global, lexemes: Rest<'a>) -> Result<(ItemAsts, Rest<'a>), Stop<'a>>
     ensures { Gives result (star_at lexemes.entry) }
 {
@@ -94,7 +94,7 @@ fn star<'a>(alloc: Global, lexemes: Rest<'a>) -> Result<(ItemAsts, Rest<'a>), St
 }
 
 /// `* | item { , item }`, of at most 128 items.
-#[tactic(auto, unfolding(crate::specs::SqlReading::items_at))]
+#[tactic(auto, unfolding(hv_model::specs::SqlReading::items_at))]
 pub fn items<'a>(alloc: Global, lexemes: Rest<'a>) -> Result<(ItemAsts, Rest<'a>), Stop<'a>>
     ensures { Gives result (items_at lexemes.entry) }
 {

@@ -1,5 +1,5 @@
 // The laws of the grammar.
-ghost use Rattle.hv_sql.specs.Terminals.{KindsApart};
+ghost use Rattle.hv_model.specs.Terminals.{KindsApart};
 ghost use Rattle.hv_sql.specs.Completion.{FaultsCompleted, FaultsFinal};
 ghost use Rattle.hv_sql.specs.Laws.{OneTree, TreesSound, TreesComplete, FaultsSound, FaultsComplete, OneFault, NoFaultToo};
 

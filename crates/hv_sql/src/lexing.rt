@@ -4,7 +4,7 @@ ghost use Rattle.std.specs.List.{All, prefix_len, list_all};
 ghost use Rattle.std.specs.Str.{is_utf8};
 ghost use Rattle.std.specs.Str.Parse.{digits_value};
 ghost use Rattle.hv_model.specs.Token.{is_digit, begins_name, begins_as_name, is_name_byte, is_keyword, is_number};
-ghost use Rattle.hv_sql.specs.Lexemes.{is_run, closes, is_quoted, is_text, is_symbol, token_length, sort_of, token_at, tokens_of, bytes_of, unquoted, text_value, TokensInOrder, NothingLost, TokensLongest, TokensHold, TextsWritten, ValuesRead};
+ghost use Rattle.hv_model.specs.Lexemes.{is_run, closes, is_quoted, is_text, is_symbol, token_length, sort_of, token_at, tokens_of, bytes_of, unquoted, text_value, TokensInOrder, NothingLost, TokensLongest, TokensHold, TextsWritten, ValuesRead};
 
 use crate::words::{keyword_of, symbol_of};
 use hv_model::{MAX_NAME_BYTES, Sort, Token, Tokens, is_number, is_white};
@@ -180,7 +180,7 @@ fn are_name_bytes(bytes: &[u8]) -> bool
     bytes.iter().all(|byte| is_name_byte(*byte))
 }
 
-#[tactic(auto, unfolding(crate::specs::Lexemes::is_run))]
+#[tactic(auto, unfolding(hv_model::specs::Lexemes::is_run))]
 fn is_run(bytes: &[u8]) -> bool
     ensures { result ≡ is_run bytes.now }
 {

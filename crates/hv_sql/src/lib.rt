@@ -5,7 +5,6 @@ mod column;
 mod condition;
 mod item;
 mod law;
-mod lexeme;
 mod lexing;
 mod operand;
 mod order;
@@ -20,15 +19,9 @@ mod stop;
 mod terminal;
 #[cfg(test)]
 mod tests;
-mod tree;
 mod words;
 
 pub use law::{fault_law, grammar_laws};
-pub use lexeme::{Lexeme, What};
 pub use lexing::{lex, lexing_law, number_of, text_of, token_bytes};
 pub use parsing::{SqlFault, parse};
-pub use tree::{
-    Ast, Cmp, CondAst, ItemAst, ItemAsts, KeyAst, KeyAsts, KeyBy, Numbers, OperandAst, PlaceAst,
-    PlaceAsts, RefAst, RefAsts, SelectAst, Word,
-};
-pub use words::{Keyword, Symbol, keyword_of, symbol_of, words_law};
+pub use words::{keyword_of, symbol_of, words_law};

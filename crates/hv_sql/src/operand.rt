@@ -1,6 +1,6 @@
 // Operands and comparisons.
 ghost use Rattle.std.specs.Prelude.{◌≡◌, ◌≤◌, ◌^◌, pos, neg_ℤ};
-ghost use Rattle.hv_sql.specs.SqlReading.{negative_at, operand_at, test_at};
+ghost use Rattle.hv_model.specs.SqlReading.{negative_at, operand_at, test_at};
 ghost use Rattle.hv_sql.specs.Code.{Gives};
 
 use crate::reference::reference;
@@ -9,7 +9,7 @@ use crate::stop::Stop;
 use crate::terminal::{
     MOST_NUMBER, NAME, NUMBER, cmp, next_is, next_symbol, number_up_to, symbol, text,
 };
-use crate::{CondAst, OperandAst, Symbol};
+use hv_model::{CondAst, OperandAst, Symbol};
 use hv_row::Value;
 use std::alloc::Global;
 
@@ -26,7 +26,7 @@ fn negated(number: u64) -> i64
 }
 
 /// `[ - ] number`, where the sign stands.
-#[tactic(auto, unfolding(crate::specs::SqlReading::negative_at))]
+#[tactic(auto, unfolding(hv_model::specs::SqlReading::negative_at))]
 fn negative<'a>(lexemes: Rest<'a>) -> Result<(OperandAst, Rest<'a>), Stop<'a>>
     ensures { Gives result (negative_at lexemes.entry) }
 {
@@ -36,7 +36,7 @@ fn negative<'a>(lexemes: Rest<'a>) -> Result<(OperandAst, Rest<'a>), Stop<'a>>
 }
 
 /// `ref | [ - ] number | text`.
-#[tactic(auto, unfolding(crate::specs::SqlReading::operand_at))]
+#[tactic(auto, unfolding(hv_model::specs::SqlReading::operand_at))]
 fn operand<'a>(alloc: Global, lexemes: Rest<'a>) -> Result<(OperandAst, Rest<'a>), Stop<'a>>
     ensures { Gives result (operand_at lexemes.entry) }
 {
@@ -55,7 +55,7 @@ fn operand<'a>(alloc: Global, lexemes: Rest<'a>) -> Result<(OperandAst, Rest<'a>
 }
 
 /// `operand cmp operand`.
-#[tactic(auto, unfolding(crate::specs::SqlReading::test_at))]
+#[tactic(auto, unfolding(hv_model::specs::SqlReading::test_at))]
 pub fn test<'a>(alloc: Global, lexemes: Rest<'a>) -> Result<(CondAst, Rest<'a>), Stop<'a>>
     ensures { Gives result (test_at lexemes.entry) }
 {

@@ -1,6 +1,6 @@
 // Groups, order and limit of a select.
 ghost use Rattle.std.specs.Prelude.{◌≡◌};
-ghost use Rattle.hv_sql.specs.SqlReading.{group_part_at, groups_of_at, key_by_at, direction_at, key_at, limit_part_at, order_part_at};
+ghost use Rattle.hv_model.specs.SqlReading.{group_part_at, groups_of_at, key_by_at, direction_at, key_at, limit_part_at, order_part_at};
 ghost use Rattle.hv_sql.specs.Code.{Gives};
 
 use crate::reference::reference;
@@ -8,12 +8,12 @@ use crate::rest::Rest;
 use crate::rule::{Rule, list_of_up_to};
 use crate::stop::Stop;
 use crate::terminal::{MOST_NUMBER, NUMBER, given, keyword, next_is, next_word, number_up_to};
-use crate::{KeyAst, KeyAsts, KeyBy, Keyword, PlaceAsts, RefAst, RefAsts};
+use hv_model::{KeyAst, KeyAsts, KeyBy, Keyword, PlaceAsts, RefAst, RefAsts};
 use hv_row::Listed;
 use std::alloc::Global;
 
 impl Rule for RefAst {
-    ghost use Rattle.hv_sql.specs.SqlReading.{ref_at};
+    ghost use Rattle.hv_model.specs.SqlReading.{ref_at};
 
     ghost reader = { ref_at };
 
@@ -23,7 +23,7 @@ impl Rule for RefAst {
 }
 
 /// `[ GROUP BY ref { , ref } ]`, of at most 128.
-#[tactic(auto, unfolding(crate::specs::SqlReading::group_part_at))]
+#[tactic(auto, unfolding(hv_model::specs::SqlReading::group_part_at))]
 fn group_part<'a>(alloc: Global, lexemes: Rest<'a>) -> Result<(RefAsts, Rest<'a>), Stop<'a>>
     ensures { Gives result (group_part_at lexemes.entry) }
 {
@@ -38,7 +38,7 @@ fn group_part<'a>(alloc: Global, lexemes: Rest<'a>) -> Result<(RefAsts, Rest<'a>
 }
 
 /// GROUP BY may stand behind one place alone.
-#[tactic(auto, unfolding(crate::specs::SqlReading::groups_of_at))]
+#[tactic(auto, unfolding(hv_model::specs::SqlReading::groups_of_at))]
 pub fn groups_of<'a>(
     alloc: Global,
     places: &PlaceAsts,
@@ -53,7 +53,7 @@ pub fn groups_of<'a>(
 }
 
 /// What a key names, and its byte.
-#[tactic(auto, unfolding(crate::specs::SqlReading::key_by_at))]
+#[tactic(auto, unfolding(hv_model::specs::SqlReading::key_by_at))]
 fn key_by<'a>(alloc: Global, lexemes: Rest<'a>) -> Result<((KeyBy, u32), Rest<'a>), Stop<'a>>
     ensures { Gives result (key_by_at lexemes.entry) }
 {
@@ -68,7 +68,7 @@ fn key_by<'a>(alloc: Global, lexemes: Rest<'a>) -> Result<((KeyBy, u32), Rest<'a
 }
 
 /// `[ ASC | DESC ]`, whether it is DESC.
-#[tactic(auto, unfolding(crate::specs::SqlReading::direction_at))]
+#[tactic(auto, unfolding(hv_model::specs::SqlReading::direction_at))]
 fn direction<'a>(lexemes: Rest<'a>) -> Result<(bool, Rest<'a>), Stop<'a>>
     ensures { Gives result (direction_at lexemes.entry) }
 {
@@ -81,12 +81,12 @@ fn direction<'a>(lexemes: Rest<'a>) -> Result<(bool, Rest<'a>), Stop<'a>>
 }
 
 impl Rule for KeyAst {
-    ghost use Rattle.hv_sql.specs.SqlReading.{key_at};
+    ghost use Rattle.hv_model.specs.SqlReading.{key_at};
 
     ghost reader = { key_at };
 
     /// `( number | ref ) [ ASC | DESC ]`.
-    #[tactic(auto, unfolding(crate::specs::SqlReading::key_at))]
+    #[tactic(auto, unfolding(hv_model::specs::SqlReading::key_at))]
     fn read<'a>(alloc: Global, lexemes: Rest<'a>) -> Result<(KeyAst, Rest<'a>), Stop<'a>> {
         let ((by, byte), rest) = key_by(alloc, lexemes)?;
         let (down, rest) = direction(rest)?;
@@ -95,7 +95,7 @@ impl Rule for KeyAst {
 }
 
 /// `[ LIMIT number ]`.
-#[tactic(auto, unfolding(crate::specs::SqlReading::limit_part_at))]
+#[tactic(auto, unfolding(hv_model::specs::SqlReading::limit_part_at))]
 fn limit_part<'a>(lexemes: Rest<'a>) -> Result<(Option<u64>, Rest<'a>), Stop<'a>>
     ensures { Gives result (limit_part_at lexemes.entry) }
 {
@@ -109,7 +109,7 @@ fn limit_part<'a>(lexemes: Rest<'a>) -> Result<(Option<u64>, Rest<'a>), Stop<'a>
 }
 
 /// `[ ORDER BY key { , key } [ LIMIT number ] ]`, of at most 128 keys.
-#[tactic(auto, unfolding(crate::specs::SqlReading::order_part_at))]
+#[tactic(auto, unfolding(hv_model::specs::SqlReading::order_part_at))]
 pub fn order_part<'a>(
     alloc: Global,
     lexemes: Rest<'a>,

@@ -1,13 +1,13 @@
 // The tree of a statement's text, or the fault.
 ghost use Rattle.std.specs.Prelude.{◌≡◌, ◌≤◌, List, length, IfOk, IfErr};
-ghost use Rattle.hv_sql.specs.SqlReading.{statement_at};
-ghost use Rattle.hv_sql.specs.Laws.{tree_at};
-ghost use Rattle.hv_sql.specs.Lexed as spec;
-ghost use Rattle.hv_sql.specs.Fault.{IsStatement, IsFault, place_of};
+ghost use Rattle.hv_model.specs.SqlReading.{statement_at};
+ghost use Rattle.hv_model.specs.SqlReading.{tree_at};
+ghost use Rattle.hv_model.specs.Lexed as spec;
+ghost use Rattle.hv_model.specs.Fault.{IsStatement, IsFault, place_of};
 ghost use Rattle.hv_sql.specs.Code.{Gives};
 ghost use Rattle.hv_sql.specs.Answer.{Answers, IsTree, IsSyntax, Explains};
-ghost use Rattle.hv_sql.specs.declared.lexeme.Lexeme.{Lexeme};
-ghost use Rattle.hv_sql.specs.declared.tree.Ast.{Ast};
+ghost use Rattle.hv_model.specs.declared.lexeme.Lexeme.{Lexeme};
+ghost use Rattle.hv_model.specs.declared.tree.Ast.{Ast};
 
 use crate::lexing::lex;
 use crate::rest::Rest;
@@ -15,7 +15,7 @@ use crate::select::select;
 use crate::statement::{barrier, create, import, merge, purge, session};
 use crate::stop::Stop;
 use crate::terminal::next_word;
-use crate::{Ast, Keyword};
+use hv_model::{Ast, Keyword};
 use std::alloc::{AllocError, Global};
 
 /// Why a statement has no tree.
@@ -37,7 +37,7 @@ impl From<AllocError> for SqlFault {
 }
 
 /// Any statement.
-#[tactic(auto, unfolding(crate::specs::SqlReading::statement_at))]
+#[tactic(auto, unfolding(hv_model::specs::SqlReading::statement_at))]
 fn statement<'a>(alloc: Global, lexemes: Rest<'a>) -> Result<(Ast, Rest<'a>), Stop<'a>>
     ensures { Gives result (statement_at lexemes.entry) }
 {

@@ -1,18 +1,18 @@
 // The places of a select.
 ghost use Rattle.std.specs.Prelude.{◌≡◌};
-ghost use Rattle.hv_sql.specs.SqlReading.{alias_at, place_at, places_at};
+ghost use Rattle.hv_model.specs.SqlReading.{alias_at, place_at, places_at};
 ghost use Rattle.hv_sql.specs.Code.{Gives};
 
 use crate::rest::Rest;
 use crate::rule::{Rule, list_of};
 use crate::stop::Stop;
 use crate::terminal::{NAME, keyword, name, next_is, next_word};
-use crate::{Keyword, PlaceAst, PlaceAsts, Word};
+use hv_model::{Keyword, PlaceAst, PlaceAsts, Word};
 use hv_row::Listed;
 use std::alloc::Global;
 
 /// `[ [ AS ] name ]`.
-#[tactic(auto, unfolding(crate::specs::SqlReading::alias_at))]
+#[tactic(auto, unfolding(hv_model::specs::SqlReading::alias_at))]
 fn alias<'a>(alloc: Global, lexemes: Rest<'a>) -> Result<(Option<Word>, Rest<'a>), Stop<'a>>
     ensures { Gives result (alias_at lexemes.entry) }
 {
@@ -29,12 +29,12 @@ fn alias<'a>(alloc: Global, lexemes: Rest<'a>) -> Result<(Option<Word>, Rest<'a>
 }
 
 impl Rule for PlaceAst {
-    ghost use Rattle.hv_sql.specs.SqlReading.{place_at};
+    ghost use Rattle.hv_model.specs.SqlReading.{place_at};
 
     ghost reader = { place_at };
 
     /// `name [ [ AS ] name ]`.
-    #[tactic(auto, unfolding(crate::specs::SqlReading::place_at))]
+    #[tactic(auto, unfolding(hv_model::specs::SqlReading::place_at))]
     fn read<'a>(alloc: Global, lexemes: Rest<'a>) -> Result<(PlaceAst, Rest<'a>), Stop<'a>> {
         let (table, rest) = name(alloc, lexemes)?;
         let (alias, rest) = alias(alloc, rest)?;
@@ -43,7 +43,7 @@ impl Rule for PlaceAst {
 }
 
 /// `place { , place }`, or one place alone.
-#[tactic(auto, unfolding(crate::specs::SqlReading::places_at))]
+#[tactic(auto, unfolding(hv_model::specs::SqlReading::places_at))]
 pub fn places<'a>(
     alloc: Global,
     alone: bool,

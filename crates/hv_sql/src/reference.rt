@@ -1,16 +1,16 @@
 // References, keys of an order and places: the rules of one tree each.
 ghost use Rattle.std.specs.Prelude.{◌≡◌};
-ghost use Rattle.hv_sql.specs.SqlReading.{ref_at, ref_behind_at};
+ghost use Rattle.hv_model.specs.SqlReading.{ref_at, ref_behind_at};
 ghost use Rattle.hv_sql.specs.Code.{Gives};
 
 use crate::rest::Rest;
 use crate::stop::Stop;
 use crate::terminal::{name, next_symbol, symbol};
-use crate::{RefAst, Symbol, Word};
+use hv_model::{RefAst, Symbol, Word};
 use std::alloc::Global;
 
 /// What may stand behind the first name of a reference: `[ . name ]`.
-#[tactic(auto, unfolding(crate::specs::SqlReading::ref_behind_at))]
+#[tactic(auto, unfolding(hv_model::specs::SqlReading::ref_behind_at))]
 fn ref_behind<'a>(
     alloc: Global,
     first: Word,
@@ -47,7 +47,7 @@ fn ref_behind<'a>(
 }
 
 /// `name [ . name ]`.
-#[tactic(auto, unfolding(crate::specs::SqlReading::ref_at))]
+#[tactic(auto, unfolding(hv_model::specs::SqlReading::ref_at))]
 pub fn reference<'a>(alloc: Global, lexemes: Rest<'a>) -> Result<(RefAst, Rest<'a>), Stop<'a>>
     ensures { Gives result (ref_at lexemes.entry) }
 {

@@ -1,13 +1,12 @@
 // What is left of a text's tokens.
 ghost use Rattle.std.specs.Prelude.{◌≡◌, ◌↔◌, IsTrue, [], length};
-ghost use Rattle.hv_sql.specs.Lexemes.{IsOf, tokens_of};
-ghost use Rattle.hv_sql.specs.Lexed as spec;
+ghost use Rattle.hv_model.specs.Lexemes.{IsOf, tokens_of};
+ghost use Rattle.hv_model.specs.Lexed as spec;
 ghost use Rattle.hv_sql.specs.Next.{what_seen, IsFirst};
 
 use crate::lexing::{number_of, token_bytes};
 use crate::words::{keyword_of, symbol_of};
-use crate::{Keyword, Symbol};
-use hv_model::{Sort, Token};
+use hv_model::{Keyword, Sort, Symbol, Token};
 use std::marker::Model;
 
 /// What a token is. Names and texts stand in the statement's text, a text with its quotes.
@@ -37,8 +36,8 @@ pub struct Rest<'a> {
 
 impl<'a> Model for Rest<'a> {
     ghost use Rattle.std.specs.Prelude.{List};
-    ghost use Rattle.hv_sql.specs.declared.lexeme.Lexeme.{Lexeme};
-    ghost use Rattle.hv_sql.specs.Lexed.{lexemes_of, AllStandIn};
+    ghost use Rattle.hv_model.specs.declared.lexeme.Lexeme.{Lexeme};
+    ghost use Rattle.hv_model.specs.Lexed.{lexemes_of, AllStandIn};
 
     ghost Value = { List Lexeme };
 

@@ -1,21 +1,21 @@
 // Lists of trees with commas between them.
 ghost use Rattle.std.specs.Prelude.{◌≡◌, [], ◌∷◌};
-ghost use Rattle.hv_sql.specs.Terminals as spec;
-ghost use Rattle.hv_sql.specs.Reading.{more_up_to_at, list_of_at, list_of_up_to_at};
-ghost use Rattle.hv_sql.specs.SqlReading.{symbol_at};
+ghost use Rattle.hv_model.specs.Terminals as spec;
+ghost use Rattle.hv_model.specs.Reading.{more_up_to_at, list_of_at, list_of_up_to_at};
+ghost use Rattle.hv_model.specs.SqlReading.{symbol_at};
 ghost use Rattle.hv_sql.specs.Code.{Gives, with_front};
-ghost use Rattle.hv_sql.specs.declared.words.Symbol.TheVariants.{Comma};
+ghost use Rattle.hv_model.specs.declared.lexeme.Symbol.TheVariants.{Comma};
 
-use crate::Symbol;
 use crate::rest::Rest;
 use crate::stop::Stop;
 use crate::terminal::{next_symbol, symbol};
+use hv_model::Symbol;
 use hv_row::Listed;
 use std::alloc::Global;
 
 /// A tree that lists have.
 pub trait Rule: Drop {
-    ghost use Rattle.hv_sql.specs.Reading.{Reader};
+    ghost use Rattle.hv_model.specs.Reading.{Reader};
     ghost use Rattle.hv_sql.specs.Code.{Gives};
 
     /// The reader of its rule.

@@ -1,6 +1,6 @@
 // SELECT.
 ghost use Rattle.std.specs.Prelude.{◌≡◌};
-ghost use Rattle.hv_sql.specs.SqlReading.{select_at};
+ghost use Rattle.hv_model.specs.SqlReading.{select_at};
 ghost use Rattle.hv_sql.specs.Code.{Gives};
 
 use crate::condition::where_part;
@@ -10,11 +10,11 @@ use crate::place::places;
 use crate::rest::Rest;
 use crate::stop::Stop;
 use crate::terminal::keyword;
-use crate::{Ast, Keyword, SelectAst};
+use hv_model::{Ast, Keyword, SelectAst};
 use std::alloc::Global;
 
 /// `SELECT` with its items, places, condition, groups and order.
-#[tactic(auto, unfolding(crate::specs::SqlReading::select_at))]
+#[tactic(auto, unfolding(hv_model::specs::SqlReading::select_at))]
 pub fn select<'a>(alloc: Global, lexemes: Rest<'a>) -> Result<(Ast, Rest<'a>), Stop<'a>>
     ensures { Gives result (select_at lexemes.entry) }
 {

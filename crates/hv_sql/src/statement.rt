@@ -1,17 +1,17 @@
 // The statements other than SELECT.
 ghost use Rattle.std.specs.Prelude.{◌≡◌};
-ghost use Rattle.hv_sql.specs.SqlReading.{create_at, import_at, purge_at, part_at, merge_at, session_at, barrier_at};
+ghost use Rattle.hv_model.specs.SqlReading.{create_at, import_at, purge_at, part_at, merge_at, session_at, barrier_at};
 ghost use Rattle.hv_sql.specs.Code.{Gives};
 
 use crate::rest::Rest;
 use crate::rule::{Rule, list_of};
 use crate::stop::Stop;
 use crate::terminal::{MOST_NUMBER, keyword, name, number_up_to, symbol};
-use crate::{Ast, Keyword, Symbol};
+use hv_model::{Ast, Keyword, Symbol};
 use std::alloc::Global;
 
 /// `CREATE TABLE name ( column { , column } )`.
-#[tactic(auto, unfolding(crate::specs::SqlReading::create_at))]
+#[tactic(auto, unfolding(hv_model::specs::SqlReading::create_at))]
 pub fn create<'a>(alloc: Global, lexemes: Rest<'a>) -> Result<(Ast, Rest<'a>), Stop<'a>>
     ensures { Gives result (create_at lexemes.entry) }
 {
@@ -25,7 +25,7 @@ pub fn create<'a>(alloc: Global, lexemes: Rest<'a>) -> Result<(Ast, Rest<'a>), S
 }
 
 /// `IMPORT INTO name LINES number`.
-#[tactic(auto, unfolding(crate::specs::SqlReading::import_at))]
+#[tactic(auto, unfolding(hv_model::specs::SqlReading::import_at))]
 pub fn import<'a>(alloc: Global, lexemes: Rest<'a>) -> Result<(Ast, Rest<'a>), Stop<'a>>
     ensures { Gives result (import_at lexemes.entry) }
 {
@@ -39,7 +39,7 @@ pub fn import<'a>(alloc: Global, lexemes: Rest<'a>) -> Result<(Ast, Rest<'a>), S
 }
 
 /// `PURGE CHUNK number OF name`.
-#[tactic(auto, unfolding(crate::specs::SqlReading::purge_at))]
+#[tactic(auto, unfolding(hv_model::specs::SqlReading::purge_at))]
 pub fn purge<'a>(alloc: Global, lexemes: Rest<'a>) -> Result<(Ast, Rest<'a>), Stop<'a>>
     ensures { Gives result (purge_at lexemes.entry) }
 {
@@ -53,12 +53,12 @@ pub fn purge<'a>(alloc: Global, lexemes: Rest<'a>) -> Result<(Ast, Rest<'a>), St
 }
 
 impl Rule for u64 {
-    ghost use Rattle.hv_sql.specs.SqlReading.{part_at};
+    ghost use Rattle.hv_model.specs.SqlReading.{part_at};
 
     ghost reader = { part_at };
 
     /// The number of a part.
-    #[tactic(auto, unfolding(crate::specs::SqlReading::part_at))]
+    #[tactic(auto, unfolding(hv_model::specs::SqlReading::part_at))]
     fn read<'a>(_alloc: Global, lexemes: Rest<'a>) -> Result<(u64, Rest<'a>), Stop<'a>> {
         let (number, rest) = number_up_to(MOST_NUMBER, lexemes)?;
         Ok((number.0, rest))
@@ -66,7 +66,7 @@ impl Rule for u64 {
 }
 
 /// `MERGE CHUNKS number , number { , number } OF name`.
-#[tactic(auto, unfolding(crate::specs::SqlReading::merge_at))]
+#[tactic(auto, unfolding(hv_model::specs::SqlReading::merge_at))]
 pub fn merge<'a>(alloc: Global, lexemes: Rest<'a>) -> Result<(Ast, Rest<'a>), Stop<'a>>
     ensures { Gives result (merge_at lexemes.entry) }
 {
@@ -82,7 +82,7 @@ pub fn merge<'a>(alloc: Global, lexemes: Rest<'a>) -> Result<(Ast, Rest<'a>), St
 }
 
 /// `SESSION name`.
-#[tactic(auto, unfolding(crate::specs::SqlReading::session_at))]
+#[tactic(auto, unfolding(hv_model::specs::SqlReading::session_at))]
 pub fn session<'a>(alloc: Global, lexemes: Rest<'a>) -> Result<(Ast, Rest<'a>), Stop<'a>>
     ensures { Gives result (session_at lexemes.entry) }
 {
@@ -92,7 +92,7 @@ pub fn session<'a>(alloc: Global, lexemes: Rest<'a>) -> Result<(Ast, Rest<'a>), 
 }
 
 /// `BARRIER`.
-#[tactic(auto, unfolding(crate::specs::SqlReading::barrier_at))]
+#[tactic(auto, unfolding(hv_model::specs::SqlReading::barrier_at))]
 pub fn barrier<'a>(lexemes: Rest<'a>) -> Result<(Ast, Rest<'a>), Stop<'a>>
     ensures { Gives result (barrier_at lexemes.entry) }
 {

@@ -1,15 +1,15 @@
 // The terminals: readers of one lexeme.
 ghost use Rattle.std.specs.Prelude.{◌≡◌, ◌≤◌, IfOk};
-ghost use Rattle.hv_sql.specs.Terminals as spec;
-ghost use Rattle.hv_sql.specs.Reading.{one_at, next_is, given_at};
-ghost use Rattle.hv_sql.specs.SqlReading.{keyword_at, symbol_at, name_at, number_up_to_at, text_at, cmp_at};
+ghost use Rattle.hv_model.specs.Terminals as spec;
+ghost use Rattle.hv_model.specs.Reading.{one_at, next_is, given_at};
+ghost use Rattle.hv_model.specs.SqlReading.{keyword_at, symbol_at, name_at, number_up_to_at, text_at, cmp_at};
 ghost use Rattle.hv_sql.specs.Code.{Gives};
 ghost use Rattle.hv_sql.specs.Next.{what_seen};
 
 use crate::lexing::text_of;
 use crate::rest::{Rest, Seen};
 use crate::stop::Stop;
-use crate::{Cmp, Keyword, Symbol, Word};
+use hv_model::{Cmp, Keyword, Symbol, Word};
 use hv_row::{Bytes, Listed};
 use std::alloc::Global;
 

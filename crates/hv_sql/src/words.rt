@@ -1,119 +1,11 @@
 // The keywords and symbols that a token may be.
 ghost use Rattle.std.specs.Prelude.{◌≡◌};
-ghost use Rattle.hv_sql.specs.Lexemes.{keyword_spelling, keyword_of, symbol_spelling, symbol_of, KeywordsNamed, KeywordsSpelled, SymbolsNamed, SymbolsSpelled};
+ghost use Rattle.std.specs.List.{filter, find};
+ghost use Rattle.hv_model.specs.Token.{is_word};
+ghost use Rattle.hv_sql.specs.Words.{has_length};
+ghost use Rattle.hv_model.specs.Lexemes.{all_keywords, keyword_spelling, keyword_of, symbol_spelling, symbol_of, KeywordsNamed, KeywordsSpelled, SymbolsNamed, SymbolsSpelled};
 
-use hv_model::is_word;
-
-/// A word that no name may be.
-#[derive(Debug, Clone, Copy, PartialEq, Eq)]
-pub enum Keyword {
-    And,
-    As,
-    Asc,
-    Barrier,
-    By,
-    Chunk,
-    Chunks,
-    Count,
-    Create,
-    Desc,
-    From,
-    Group,
-    Import,
-    Index,
-    Int,
-    Into,
-    Is,
-    Limit,
-    Lines,
-    Max,
-    Merge,
-    Min,
-    Not,
-    Null,
-    Of,
-    Or,
-    Order,
-    Purge,
-    Range,
-    Select,
-    Session,
-    Sum,
-    Summary,
-    Table,
-    Text,
-    Where,
-}
-
-/// A symbol.
-#[derive(Debug, Clone, Copy, PartialEq, Eq)]
-pub enum Symbol {
-    /// `(`
-    Open,
-    /// `)`
-    Close,
-    /// `,`
-    Comma,
-    /// `.`
-    Dot,
-    /// `*`
-    Star,
-    /// `-`
-    Minus,
-    /// `=`
-    Equal,
-    /// `<>`
-    Unequal,
-    /// `!=`
-    NotEqual,
-    /// `<`
-    Less,
-    /// `<=`
-    AtMost,
-    /// `>`
-    Greater,
-    /// `>=`
-    AtLeast,
-}
-
-const KEYWORDS: [Keyword; 36] = [
-    Keyword::And,
-    Keyword::As,
-    Keyword::Asc,
-    Keyword::Barrier,
-    Keyword::By,
-    Keyword::Chunk,
-    Keyword::Chunks,
-    Keyword::Count,
-    Keyword::Create,
-    Keyword::Desc,
-    Keyword::From,
-    Keyword::Group,
-    Keyword::Import,
-    Keyword::Index,
-    Keyword::Int,
-    Keyword::Into,
-    Keyword::Is,
-    Keyword::Limit,
-    Keyword::Lines,
-    Keyword::Max,
-    Keyword::Merge,
-    Keyword::Min,
-    Keyword::Not,
-    Keyword::Null,
-    Keyword::Of,
-    Keyword::Or,
-    Keyword::Order,
-    Keyword::Purge,
-    Keyword::Range,
-    Keyword::Select,
-    Keyword::Session,
-    Keyword::Sum,
-    Keyword::Summary,
-    Keyword::Table,
-    Keyword::Text,
-    Keyword::Where,
-];
+use hv_model::{Keyword, Symbol, is_word};
 
 const SYMBOLS: [Symbol; 13] = [
     Symbol::Open,
@@ -175,11 +67,71 @@ fn keyword_spelling(word: Keyword) -> &'static [u8]
     }
 }
 
+// The keywords of this length, in order.
+fn keywords_of_length(length: usize) -> &'static [Keyword]
+    ensures { result.now ≡ filter (has_length length) all_keywords }
+{
+    match length {
+        2 => &[
+            Keyword::As,
+            Keyword::By,
+            Keyword::Is,
+            Keyword::Of,
+            Keyword::Or,
+        ],
+        3 => &[
+            Keyword::And,
+            Keyword::Asc,
+            Keyword::Int,
+            Keyword::Max,
+            Keyword::Min,
+            Keyword::Not,
+            Keyword::Sum,
+        ],
+        4 => &[
+            Keyword::Desc,
+            Keyword::From,
+            Keyword::Into,
+            Keyword::Null,
+            Keyword::Text,
+        ],
+        5 => &[
+            Keyword::Chunk,
+            Keyword::Count,
+            Keyword::Group,
+            Keyword::Index,
+            Keyword::Limit,
+            Keyword::Lines,
+            Keyword::Merge,
+            Keyword::Order,
+            Keyword::Purge,
+            Keyword::Range,
+            Keyword::Table,
+            Keyword::Where,
+        ],
+        6 => &[
+            Keyword::Chunks,
+            Keyword::Create,
+            Keyword::Import,
+            Keyword::Select,
+        ],
+        7 => &[Keyword::Barrier, Keyword::Session, Keyword::Summary],
+        _ => &[],
+    }
+}
+
 /// Which keyword bytes are, in any case of their letters.
 pub fn keyword_of(bytes: &[u8]) -> Option<Keyword>
     ensures { result ≡ keyword_of bytes.now }
 {
-    KEYWORDS
+    found_among(keywords_of_length(bytes.len()), bytes)
+}
+
+// Which of these keywords bytes are.
+fn found_among(words: &[Keyword], bytes: &[u8]) -> Option<Keyword>
+    ensures { result ≡ find (λ word. is_word (keyword_spelling word) bytes.now) words.now }
+{
+    words
         .iter()
         .copied()
         .find(|word| is_word(bytes, keyword_spelling(*word)))

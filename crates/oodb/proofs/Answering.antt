@@ -5,7 +5,7 @@ use Rattle.std.specs.Option.{is_some}
 use Rattle.hv_row.specs.declared.value.Value.{Value}
 use Rattle.hv_row.specs.declared.schema.Column.{Column}
 use Rattle.hv_row.specs.Schema.{IsSchema}
-use Rattle.hv_model.specs.declared.tree.Ast.TheVariants as tree
+use Rattle.hv_model.specs.declared.built.Built.TheVariants as tree
 use Rattle.hv_model.specs.declared.script.Statement.{Statement}
 use Rattle.hv_model.specs.declared.catalogue.Table.{Table}
 use Rattle.hv_model.specs.declared.catalogue.Database.{Database}
@@ -14,11 +14,12 @@ use Rattle.hv_model.specs.declared.catalogue.Detail.{Detail}
 use Rattle.hv_model.specs.declared.catalogue.Detail.TheVariants as detail
 use Rattle.hv_model.specs.declared.catalogue.Entry.{Entry}
 use Rattle.hv_model.specs.declared.query.Cell.{Cell}
-use Rattle.hv_model.specs.Tree.{tree_of}
+use Rattle.hv_model.specs.Built.{tree_of}
 use Rattle.hv_model.specs.Import.{rows_of}
 use Rattle.hv_model.specs.declared.catalogue.StepRefusal.{StepRefusal}
 use Rattle.hv_model.specs.Database.{table_number, import_refusal, step}
-use Rattle.hv_model.specs.Query.{IsAnswer, whole_table}
+use Rattle.hv_model.specs.Answer.{IsAnswer}
+use Rattle.hv_model.specs.Query.{whole_table}
 use Rattle.hv_model.specs.Command.{are_schema}
 use Rattle.hv_model.specs.Legal.{Names, Answered}
 use Rattle.hv_model.specs.OneSession.{Commits}

@@ -1,6 +1,7 @@
 -- The first script's outcome, statement by statement.
-use Rattle.std.proofs.Common.{◌≡◌, ℕ, zero, suc, ◌+◌, ◌≤◌, true, List, [], ◌∷◌, Some, refl, subst, arith, codes, pos}
+use Rattle.std.proofs.Common.{◌≡◌, ℕ, zero, suc, ◌+◌, ◌≤◌, true, List, [], ◌∷◌, Some, refl, sym, subst, arith, codes, pos}
 use Rattle.std.specs.List.{slice_get}
+use Rattle.std.specs.List.Sorted.{IsPermutation}
 use Rattle.std.proofs.lemmas.List.Sorted.{IsPermutation-refl}
 use Rattle.hv_row.specs.declared.value.Value.{Value}
 use Rattle.hv_row.specs.declared.value.Value.TheVariants.{Int, Text}
@@ -11,16 +12,17 @@ use Rattle.hv_model.specs.declared.catalogue.Database.{Database}
 use Rattle.hv_model.specs.declared.catalogue.Command.TheVariants.{Create, Import}
 use Rattle.hv_model.specs.declared.reply.Reply.TheVariants.{Done, Rows}
 use Rattle.hv_model.specs.declared.catalogue.Detail.TheVariants as detail
-use Rattle.hv_model.specs.Tree.{plain_column}
+use Rattle.hv_model.specs.Built.{plain_column}
 use Rattle.hv_model.specs.Database.{empty_database, with_table, with_chunk}
 use Rattle.hv_model.specs.Query.{whole_table}
 use Rattle.hv_model.specs.Legal.{Legal}
 use Rattle.hv_model.specs.OneSession.{IsOneSession, Kept}
+use Rattle.hv_model.proofs.QueryLaws.{whole_out}
 use Rattle.hv_model.proofs.SoFar.{kept_start, kept_next}
 use Rattle.hv_model.proofs.Whole.{legal_whole}
 use Rattle.oodb.specs.FirstScript as first
 
-schema : List Column
+abbrev schema : List Column
 schema = plain_column (codes "a") kind.Int ∷ plain_column (codes "b") kind.Text ∷ []
 
 -- the statements have their session and numbers
@@ -81,7 +83,7 @@ after_select : (max : ℕ) → Kept first.script first.statements max true fille
 after_select max = kept_next first.script first.statements max true filled filled first.history first.history
     (Done 1 (detail.Create (codes "t")) ∷ Done 2 (detail.Import (codes "t") 1 1) ∷ []) first.select (Rows 2 first.rows) one_session (after_import max) refl (
       record { same_database = refl; same_history = refl; at_is = refl },
-      record { query = whole_table 0 (plain_column (codes "a") kind.Int ∷ plain_column (codes "b") kind.Text ∷ []); allowed = refl; is = refl; answer = (λ told. IsPermutation-refl first.rows) },
+      record { query = whole_table 0 schema; allowed = refl; is = refl; answer = (λ told. subst (λ rows. IsPermutation rows first.rows) (sym (whole_out 0 schema filled)) (IsPermutation-refl first.rows)) },
     )
 
 pub met : (max : ℕ) → Legal first.script max true first.history (first.replies_at 2 ∷ [])

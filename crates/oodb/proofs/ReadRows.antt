@@ -14,7 +14,7 @@ use Rattle.hv_page.specs.Chunk.{IsPacked, IsStored, heap_pages_from, AreHeapPage
 use Rattle.hv_chunk.proofs.Packing.{flat}
 use Rattle.hv_chunk.proofs.Growing.{pages_count}
 use Rattle.hv_model.specs.declared.query.Cell.{Cell}
-use Rattle.hv_model.specs.Query.{cell_of_value}
+use Rattle.hv_model.specs.Groups.{cell_of_value}
 use Rattle.oodb.specs.RowsOut.{rows_out, AddsRows, HasEntries}
 
 -- ---- rows that go behind others

@@ -18,7 +18,10 @@ use Rattle.hv_model.specs.declared.catalogue.Table.{Table}
 use Rattle.hv_model.specs.declared.catalogue.Database.{Database}
 use Rattle.hv_model.specs.declared.query.Cell.{Cell}
 use Rattle.hv_model.specs.Database.{rows_of_table}
-use Rattle.hv_model.specs.Query.{cell_of, cell_of_value, item_of, star_items, row_out, out, loops, rows_of_option, whole_table, IsAnswer}
+use Rattle.hv_model.specs.Groups.{cell_of, cell_of_value}
+use Rattle.hv_model.specs.Answer.{IsAnswer}
+use Rattle.hv_model.specs.Query.{item_of, star_items, row_out, out, loops, rows_of_option, whole_table}
+use Rattle.hv_model.proofs.QueryLaws.{whole_out}
 use Rattle.oodb.specs.declared.store.StoredChunk.{StoredChunk}
 use Rattle.oodb.specs.declared.store.StoredTable.{StoredTable}
 use Rattle.oodb.specs.declared.store.Store.{Store}
@@ -59,7 +62,7 @@ all_fit tells pages schema (c ∷ cs) built = fit_behind schema c.chunk.rows (fl
 -- nested loops over one table that stands at a number
 whole_table_rows : (s : Database) (at : ℕ) (t : Table) → slice_get s.tables at ≡ Some t → AllByRecursion (RowFits t.schema) (rows_of_table t) → out (whole_table at t.schema) (loops (whole_table at t.schema) s) ≡ rows_out (rows_of_table t)
 whole_table_rows s at t stands fit =
-    ap (λ o. out (whole_table at t.schema) (flat_map (λ row. (row ∷ []) ∷ []) (rows_of_option o))) stands ∙ star_rows at t.schema (rows_of_table t) fit
+    whole_out at t.schema s ∙ ap (λ o. out (whole_table at t.schema) (flat_map (λ row. (row ∷ []) ∷ []) (rows_of_option o))) stands ∙ star_rows at t.schema (rows_of_table t) fit
 
 -- the rows of a stored table are those of its chunks
 pub stored_rows : {File : Type 0} (t : StoredTable File) → rows_of_table (table_of t) ≡ flat_map (λ c. c.chunk.rows) t.chunks.items

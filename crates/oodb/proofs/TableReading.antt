@@ -9,7 +9,7 @@ use Rattle.hv_page.specs.Layout.{written_version}
 use Rattle.hv_page.specs.Chunk.{AreHeapPages}
 use Rattle.hv_chunk.specs.Building.{IsBuilt}
 use Rattle.hv_model.specs.declared.query.Cell.{Cell}
-use Rattle.hv_model.specs.Query.{cell_of_value}
+use Rattle.hv_model.specs.Groups.{cell_of_value}
 use Rattle.hv_model.specs.declared.reply.Why.{Why}
 use Rattle.hv_model.specs.declared.reply.Failure.{Failure}
 use Rattle.hv_model.specs.declared.reply.Failure.TheVariants.{Read, Write, Damaged, Memory}

@@ -5,9 +5,9 @@ use Rattle.hv_model.specs.declared.script.Statement.{Statement}
 use Rattle.hv_model.specs.declared.catalogue.Table.{Table}
 use Rattle.hv_model.specs.declared.catalogue.Database.{Database}
 use Rattle.hv_model.specs.declared.catalogue.Entry.{Entry}
-use Rattle.hv_model.specs.declared.tree.Ast.TheVariants as tree
+use Rattle.hv_model.specs.declared.built.Built.TheVariants as tree
 use Rattle.hv_model.specs.declared.reply.Refusal.TheVariants.{Unbuilt}
-use Rattle.hv_model.specs.Tree.{tree_of}
+use Rattle.hv_model.specs.Built.{tree_of}
 use Rattle.hv_model.specs.Import.{rows_of}
 use Rattle.hv_model.specs.Database.{table_number, import_refusal}
 use Rattle.hv_model.specs.Command.{refusal}

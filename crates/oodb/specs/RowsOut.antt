@@ -6,7 +6,7 @@ use Rattle.hv_row.specs.Row.{RowFits, row_bytes}
 use Rattle.hv_page.specs.Layout.{written_version}
 use Rattle.hv_page.specs.Heap.{IsHeapPage}
 use Rattle.hv_model.specs.declared.query.Cell.{Cell}
-use Rattle.hv_model.specs.Query.{cell_of_value}
+use Rattle.hv_model.specs.Groups.{cell_of_value}
 
 -- rows as output rows, all of their values
 abbrev pub rows_out : List (List Value) → List (List Cell)

@@ -4,10 +4,10 @@ ghost use Rattle.hv_model.specs.declared.catalogue.Entry.{Entry};
 ghost use Rattle.std.specs.Prelude.{◌≡◌, ◌<◌, ◌≤◌, ◌+◌, ℕ, [], ◌∷◌, ◌++◌, List, length, true, Some, None, IfOk, IfErr, OnOk, OnErr, vec_len, vec_capacity};
 ghost use Rattle.hv_model.specs.Database.{most_entries};
 ghost use Rattle.hv_model.specs.Script.{line_list};
-ghost use Rattle.hv_model.specs.Tree.{tree_of};
+ghost use Rattle.hv_model.specs.Built.{tree_of};
 ghost use Rattle.hv_model.specs.Legal.{may_fail};
 ghost use Rattle.hv_model.specs.OneSession.{Settles};
-ghost use Rattle.hv_model.specs.declared.tree.Ast.TheVariants as tree;
+ghost use Rattle.hv_model.specs.declared.built.Built.TheVariants as tree;
 ghost use Rattle.oodb.specs.Answer.{Keeps, IsImportOf, Imports};
 ghost use Rattle.oodb.specs.Stored.{database_of, IsSound};
 ghost use Rattle.oodb.specs.Reads.{port_seen, IsIdle, GoesOn};
@@ -20,7 +20,9 @@ use crate::import::spells_rows;
 use crate::select::read_table;
 use crate::store::Store;
 use hv_dev::{PageFile, PageSink, Port};
-use hv_model::{Ast, Detail, Entry, Failure, MAX_IMPORT_LINES, Refusal, Reply, Statement, tree_of};
+use hv_model::{
+    Built, Detail, Entry, Failure, MAX_IMPORT_LINES, Refusal, Reply, Statement, tree_of,
+};
 use hv_row::{Bytes, Columns, Copied, Schema, is_schema};
 use hv_view::ChunkView;
 use std::alloc::{AllocError, Global};
@@ -79,10 +81,10 @@ fn try_answer<P: Port>(
 {
     match tree_of(alloc, statement.text.as_slice())? {
         None => Ok(unbuilt(store)),
-        Some(Ast::Create { table, columns }) => Ok(create(
+        Some(Built::Create { table, columns }) => Ok(create(
             alloc, statement, table, columns, store, history,
         )?),
-        Some(Ast::Import { table, lines }) => import(
+        Some(Built::Import { table, lines }) => import(
             alloc,
             statement,
             table,
@@ -91,7 +93,7 @@ fn try_answer<P: Port>(
             history,
             &mut access.port,
         ),
-        Some(Ast::SelectAll { table }) => select(alloc, statement, table, store, access),
+        Some(Built::SelectAll { table }) => select(alloc, statement, table, store, access),
     }
 }
 

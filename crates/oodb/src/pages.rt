@@ -5,7 +5,7 @@ ghost use Rattle.sha2.specs.Sha256.{sha256};
 ghost use Rattle.hv_page.specs.Heap.{IsHeapEntry};
 ghost use Rattle.hv_dev.specs.Reading.{IsPageOf};
 ghost use Rattle.hv_chunk.specs.Building.{IsBuilt};
-ghost use Rattle.hv_model.specs.Query.{cell_of_value};
+ghost use Rattle.hv_model.specs.Groups.{cell_of_value};
 ghost use Rattle.oodb.specs.Reads.{ReadsOn, BroughtBytes, first_bytes};
 ghost use Rattle.oodb.specs.Damage.{IsUnread};
 ghost use Rattle.oodb.specs.RowsOut.{rows_out, AddsRows, HasEntries};

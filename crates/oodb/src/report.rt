@@ -104,7 +104,25 @@ fn print_refusal<K: Sink>(printer: &mut Printer, out: &mut K, cause: Refusal)
 {
     match cause {
         Refusal::Unbuilt => printer.put(out, b"unbuilt"),
+        Refusal::Syntax { byte } => print_at(printer, out, b"syntax ", byte),
+        Refusal::NoTable { byte } => print_at(printer, out, b"no-table ", byte),
+        Refusal::TooManyPlaces { byte } => print_at(printer, out, b"too-many-places ", byte),
+        Refusal::DuplicateAlias { byte } => print_at(printer, out, b"duplicate-alias ", byte),
+        Refusal::NoColumn { byte } => print_at(printer, out, b"no-column ", byte),
+        Refusal::Ambiguous { byte } => print_at(printer, out, b"ambiguous ", byte),
+        Refusal::TypeMismatch { byte } => print_at(printer, out, b"type-mismatch ", byte),
+        Refusal::NotGrouped { byte } => print_at(printer, out, b"not-grouped ", byte),
+        Refusal::NoOutput { byte } => print_at(printer, out, b"no-output ", byte),
+        Refusal::EmptyAggregate => printer.put(out, b"empty-aggregate"),
     }
+}
+
+// A cause, and the byte at which it stands.
+fn print_at<K: Sink>(printer: &mut Printer, out: &mut K, name: &[u8], byte: u32)
+    ensures { Prints (name.now ++ decimal byte) (seen K.taken K.faults K.zeros out.old) printer.old (seen K.taken K.faults K.zeros out.new) printer.new }
+{
+    printer.put(out, name);
+    print_number(printer, out, byte);
 }
 
 fn print_failure<K: Sink>(printer: &mut Printer, out: &mut K, cause: Failure)

@@ -1,7 +1,8 @@
 // The rows of a table.
 ghost use Rattle.std.specs.Prelude.{◌≡◌, ◌<◌, length, true, IfOk, IfErr, slice_get, IsSomeAnd};
 ghost use Rattle.hv_model.specs.Database.{rows_of_table};
-ghost use Rattle.hv_model.specs.Query.{whole_table, IsAnswer};
+ghost use Rattle.hv_model.specs.Answer.{IsAnswer};
+ghost use Rattle.hv_model.specs.Query.{whole_table};
 ghost use Rattle.hv_model.specs.declared.reply.Failure.TheVariants.{Write};
 ghost use Rattle.oodb.specs.Stored.{table_of, database_of, IsSound};
 ghost use Rattle.oodb.specs.Reads.{port_seen, IsIdle, GoesOn};

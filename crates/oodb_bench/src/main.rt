@@ -1,13 +1,16 @@
 //! `oodb_bench WORK TIMES`: does one kind of work on a full page so many times, for `bench/pages`, which takes the time; and
-//! `oodb_bench text|lex|parse KIND SIZE` reads texts of statements of so many bytes, for `bench/sql`.
+//! `oodb_bench text|lex|parse KIND SIZE` reads texts of statements of so many bytes, for `bench/sql`; and
+//! `oodb_bench table|order|group|count ROWS` makes a table of so many rows and answers a query over it, for `bench/queries`.
 //! The page has 214 rows of (INT, TEXT of 8 bytes). The program prints a sum over what it did, so that no work falls away.
 #![tactic(auto)]
 
 mod chunk;
+mod query;
 mod sql;
 mod work;
 
 use chunk::{build, make_rows, write_plainly};
+use query::{Query, ask};
 use sql::{Kind, Reading, read};
 use std::env::Args;
 use std::io::Write;
@@ -32,6 +35,7 @@ fn main(rt: HostRuntime) -> ExitCode {
         Asked::Rows => make_rows(rt.alloc(), &bench.schema, times),
         Asked::Plain => write_plainly(rt.alloc(), rt, &bench, times),
         Asked::Texts(reading, kind) => read(rt.alloc(), reading, kind, times),
+        Asked::Query(query) => ask(rt.alloc(), query, times),
     };
     let Ok(sum) = done else {
         return ExitCode::from(6);
@@ -58,6 +62,8 @@ enum Asked {
     Plain,
     /// Texts of statements, of so many bytes.
     Texts(Reading, Kind),
+    /// A query over a table of so many rows.
+    Query(Query),
 }
 
 // What is asked for, and how often.
@@ -69,9 +75,17 @@ fn read_args(args: Args) -> Option<(Asked, u32)> {
         "plain" => Asked::Plain,
         name => match Reading::named(name) {
             Some(reading) => Asked::Texts(reading, Kind::named(args.next()?.as_str())?),
-            None => Asked::Page(Work::named(name)?),
+            None => asked_of(name)?,
         },
     };
     let times = args.next()?.parse().ok()?;
     Some((asked, times))
+}
+
+// What a word asks for that has no other word behind it.
+fn asked_of(name: &str) -> Option<Asked> {
+    match Query::named(name) {
+        Some(query) => Some(Asked::Query(query)),
+        None => Some(Asked::Page(Work::named(name)?)),
+    }
 }

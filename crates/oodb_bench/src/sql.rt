@@ -7,6 +7,9 @@ use std::alloc::{AllocError, Global};
 /// The most bytes of a text.
 const MAX_TEXT_BYTES: usize = 67_108_864;
 
+/// The most items of a statement.
+const MOST_ITEMS: u32 = 128;
+
 /// What is done with a text.
 #[derive(Clone, Copy, Debug, PartialEq, Eq)]
 pub enum Reading {
@@ -41,6 +44,8 @@ pub enum Kind {
     White,
     /// The statements of `ORDINARY` in turn.
     Ordinary,
+    /// A statement of as many items as one may have, again and again.
+    Items,
 }
 
 impl Kind {
@@ -51,6 +56,7 @@ impl Kind {
             "digits" => Some(Kind::Digits),
             "white" => Some(Kind::White),
             "ordinary" => Some(Kind::Ordinary),
+            "items" => Some(Kind::Items),
             _ => None,
         }
     }
@@ -70,6 +76,7 @@ const ORDINARY: [&[u8]; 7] = [
 pub fn read(alloc: Global, reading: Reading, kind: Kind, size: u32) -> Result<u64, AllocError> {
     match kind {
         Kind::Ordinary => read_ordinary(alloc, reading, size),
+        Kind::Items => read_again(alloc, reading, items_text(alloc)?.as_slice(), size),
         _ => read_text(
             alloc,
             reading,
@@ -93,6 +100,30 @@ fn read_ordinary(alloc: Global, reading: Reading, size: u32) -> Result<u64, Allo
     Ok(sum)
 }
 
+// Reads one text again and again, as long as it fits.
+fn read_again(alloc: Global, reading: Reading, text: &[u8], size: u32) -> Result<u64, AllocError> {
+    let mut sum = 0u64;
+    let mut left = size as usize;
+    for _ in 0..size {
+        let Some(behind) = left.checked_sub(text.len()) else {
+            return Ok(sum);
+        };
+        left = behind;
+        sum = sum.wrapping_add(read_text(alloc, reading, text)?);
+    }
+    Ok(sum)
+}
+
+// A statement of 128 items.
+fn items_text(alloc: Global) -> Result<Vec<u8>, AllocError> {
+    let mut text = Vec::from_slice(alloc, b"SELECT a")?;
+    for _ in 1..MOST_ITEMS {
+        text.extend_from_slice(b", a")?;
+    }
+    text.extend_from_slice(b" FROM t")?;
+    Ok(text)
+}
+
 // One text of this kind and of at least so many bytes.
 fn text_of(alloc: Global, kind: Kind, size: usize) -> Result<Vec<u8>, AllocError> {
     let mut text = Vec::with_capacity(alloc, size)?;
@@ -108,7 +139,7 @@ fn text_of(alloc: Global, kind: Kind, size: usize) -> Result<Vec<u8>, AllocError
             text.resize(size.saturating_sub(1).max(26), b'0')?;
             text.push(b'1')?;
         }
-        Kind::White | Kind::Ordinary => {
+        Kind::White | Kind::Ordinary | Kind::Items => {
             text.extend_from_slice(b"SELECT")?;
             text.resize(size.saturating_sub(8).max(6), b' ')?;
             text.extend_from_slice(b"* FROM t")?;

@@ -1,8 +1,6 @@
 // Texts with their tokens, and what the bytes of tokens are.
-use crate::{
-    Keyword, Symbol, keyword_of, lex, lexing_law, number_of, symbol_of, text_of, token_bytes,
-};
-use hv_model::{Sort, Token};
+use crate::{keyword_of, lex, lexing_law, number_of, symbol_of, text_of, token_bytes};
+use hv_model::{Keyword, Sort, Symbol, Token};
 use std::alloc::{AllocError, Global};
 use std::test::Fail;
 

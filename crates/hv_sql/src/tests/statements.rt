@@ -2,9 +2,9 @@
 mod select_cases;
 mod where_cases;
 
-use crate::{
-    Ast, Cmp, CondAst, ItemAst, KeyAst, KeyBy, OperandAst, PlaceAst, RefAst, SelectAst, SqlFault,
-    Word, parse,
+use crate::{SqlFault, parse};
+use hv_model::{
+    Ast, Cmp, CondAst, ItemAst, KeyAst, KeyBy, OperandAst, PlaceAst, RefAst, SelectAst, Word,
 };
 use hv_row::{Bytes, ColType, Column, Value};
 use select_cases::{COUNT_CASES, GROUP_CASES, ITEM_CASES, ORDER_CASES, PLACE_CASES};

@@ -1,6 +1,6 @@
 use Rattle.std.proofs.Common.{◌≡◌, length}
 use Rattle.hv_model.specs.Token.{tokens}
-use Rattle.hv_model.specs.Tree.{columns_of}
+use Rattle.hv_model.specs.Built.{columns_of}
 use Rattle.hv_model.proofs.TreeLaws.{with_front}
 use Rattle.hv_model.proofs.reading.columns_of.Given as goal
 

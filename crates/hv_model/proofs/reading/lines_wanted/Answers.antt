@@ -1,6 +1,6 @@
 use Rattle.std.proofs.Common.{◌≡◌, ◌∙◌, ap, sym, codes, false}
 use Rattle.hv_model.specs.Token.{tokens, is_word}
-use Rattle.hv_model.specs.Tree.{tree_of_tokens}
+use Rattle.hv_model.specs.Built.{tree_of_tokens}
 use Rattle.hv_model.specs.Script.{lines_wanted}
 use Rattle.hv_model.proofs.TreeLaws.{wanted-other}
 use Rattle.hv_model.proofs.reading.lines_wanted.Goals as goal

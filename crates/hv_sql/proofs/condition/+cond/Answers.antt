@@ -1,11 +1,11 @@
 -- Each turn reads one condition.
 use Rattle.std.proofs.Common.{rules, ◌≡◌, [], ◌∷◌, ◌-◌, ◌<◌, true, ◌++◌, ◌∙◌, sym, ap}
 use Rattle.std.specs.Prelude.{Ok}
-use Rattle.hv_sql.specs.Terminals as spec
-use Rattle.hv_sql.specs.Reading.{next_is, more_up_to_at}
-use Rattle.hv_sql.specs.SqlReading.{keyword_at, conj_at, term_at}
+use Rattle.hv_model.specs.Terminals as spec
+use Rattle.hv_model.specs.Reading.{next_is, more_up_to_at}
+use Rattle.hv_model.specs.SqlReading.{keyword_at, conj_at, term_at}
 use Rattle.hv_sql.specs.Code.{with_front}
-use Rattle.hv_sql.specs.declared.words.Keyword.TheVariants as k
+use Rattle.hv_model.specs.declared.lexeme.Keyword.TheVariants as k
 use Rattle.hv_sql.proofs.Loops.{one_more}
 use Rattle.hv_sql.proofs.condition.+cond.Goals as goal
 

@@ -1,10 +1,10 @@
 -- A depth falls where a term nests; what is still read behind a list gives what was to be read.
 use Rattle.std.proofs.Common.{◌≡◌, [], ◌∷◌, ◌+◌, ◌*◌}
-use Rattle.hv_sql.specs.Terminals as spec
-use Rattle.hv_sql.specs.Reading.{more_at, more_up_to_at}
-use Rattle.hv_sql.specs.SqlReading.{keyword_at, conj_at, term_at}
+use Rattle.hv_model.specs.Terminals as spec
+use Rattle.hv_model.specs.Reading.{more_at, more_up_to_at}
+use Rattle.hv_model.specs.SqlReading.{keyword_at, conj_at, term_at}
 use Rattle.hv_sql.specs.Code.{with_front}
-use Rattle.hv_sql.specs.declared.words.Keyword.TheVariants as k
+use Rattle.hv_model.specs.declared.lexeme.Keyword.TheVariants as k
 use Rattle.hv_sql.proofs.condition.+cond.Given as goal
 
 abbrev pub decreases-term : goal.decreases-term

@@ -3,7 +3,7 @@ use Rattle.std.proofs.Common.{◌≡◌, ◌<◌, ◌≤◌, List, length, sym, 
 use Rattle.std.specs.List.{All}
 use Rattle.std.proofs.lemmas.Grind.{common_steps}
 use Rattle.hv_model.specs.declared.lexeme.Token.{Token}
-use Rattle.hv_sql.specs.Lexemes.{tokens_of}
+use Rattle.hv_model.specs.Lexemes.{tokens_of}
 use Rattle.hv_sql.proofs.LexingLaws.{tokens_within}
 use Rattle.hv_sql.proofs.LexingSteps.{token_more}
 use Rattle.hv_sql.proofs.lexing.lex.Goals as goal

@@ -1,6 +1,6 @@
 -- The tokens so far and those of the rest are the tokens of the text.
 use Rattle.std.proofs.Common.{◌≡◌, ◌≤◌, ◌-◌, ◌++◌, length, drop}
-use Rattle.hv_sql.specs.Lexemes.{tokens_from, tokens_of}
+use Rattle.hv_model.specs.Lexemes.{tokens_from, tokens_of}
 use Rattle.hv_sql.proofs.lexing.lex.Given as goal
 
 abbrev pub invariant-loop-at : goal.invariant-loop-at

@@ -1,8 +1,8 @@
 -- Each clause is a law of what the reading of the rules gives.
 use Rattle.std.proofs.Common.{rules, length}
-use Rattle.hv_sql.specs.Laws.{tree_at}
+use Rattle.hv_model.specs.SqlReading.{tree_at}
 use Rattle.hv_sql.specs.Answer.{Answers}
-use Rattle.hv_sql.specs.Lexed as spec
+use Rattle.hv_model.specs.Lexed as spec
 use Rattle.hv_sql.proofs.Answering.{answer_found, answer_only, answer_told, answer_fault}
 use Rattle.hv_sql.proofs.parsing.parse.Goals as goal
 

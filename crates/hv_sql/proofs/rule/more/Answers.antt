@@ -1,11 +1,11 @@
 -- Each turn reads one tree, and the loop ends where no comma or no room is left.
 use Rattle.std.proofs.Common.{rules, ◌≡◌, ◌<◌, ◌-◌, List, true, [], ◌∷◌, ◌++◌, ◌∙◌, sym, ap, subst}
 use Rattle.std.specs.Prelude.{Ok, Err}
-use Rattle.hv_sql.specs.Terminals as spec
-use Rattle.hv_sql.specs.Reading.{more_up_to_at, next_is}
-use Rattle.hv_sql.specs.SqlReading.{symbol_at}
+use Rattle.hv_model.specs.Terminals as spec
+use Rattle.hv_model.specs.Reading.{more_up_to_at, next_is}
+use Rattle.hv_model.specs.SqlReading.{symbol_at}
 use Rattle.hv_sql.specs.Code.{Gives, with_front}
-use Rattle.hv_sql.specs.declared.words.Symbol.TheVariants.{Comma}
+use Rattle.hv_model.specs.declared.lexeme.Symbol.TheVariants.{Comma}
 use Rattle.hv_sql.proofs.Loops.{one_more, one_stops, room_ends, list_ends}
 use Rattle.hv_sql.proofs.rule.more.Goals as goal
 use Rattle.hv_sql.proofs.rule.more.Goals.{then-loop-left-test+else-next_symbol, else-loop-left-test}

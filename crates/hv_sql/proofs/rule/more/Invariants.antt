@@ -1,10 +1,10 @@
 -- What is still read behind the list gives what was to be read.
 use Rattle.std.proofs.Common.{◌≡◌, [], ◌∷◌}
-use Rattle.hv_sql.specs.Terminals as spec
-use Rattle.hv_sql.specs.Reading.{more_up_to_at}
-use Rattle.hv_sql.specs.SqlReading.{symbol_at}
+use Rattle.hv_model.specs.Terminals as spec
+use Rattle.hv_model.specs.Reading.{more_up_to_at}
+use Rattle.hv_model.specs.SqlReading.{symbol_at}
 use Rattle.hv_sql.specs.Code.{with_front}
-use Rattle.hv_sql.specs.declared.words.Symbol.TheVariants.{Comma}
+use Rattle.hv_model.specs.declared.lexeme.Symbol.TheVariants.{Comma}
 use Rattle.hv_sql.proofs.rule.more.Given as goal
 
 abbrev pub invariant-loop-left : goal.invariant-loop-left

@@ -1,5 +1,5 @@
 use Rattle.std.proofs.Common.{◌≡◌, map}
-use Rattle.hv_model.specs.Query.{cell_of_value}
+use Rattle.hv_model.specs.Groups.{cell_of_value}
 use Rattle.oodb.proofs.pages.row_out.Given as goal
 
 -- the cells are those of the values so far

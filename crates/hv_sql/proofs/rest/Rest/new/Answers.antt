@@ -1,6 +1,6 @@
 -- The tokens are those of the text.
 use Rattle.std.proofs.Common.{sym, subst}
-use Rattle.hv_sql.specs.Lexed.{AllStandIn}
+use Rattle.hv_model.specs.Lexed.{AllStandIn}
 use Rattle.hv_sql.proofs.Standing.{tokens_stand}
 use Rattle.hv_sql.proofs.rest.Rest.new.Goals as goal
 

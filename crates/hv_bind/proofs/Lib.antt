@@ -1,0 +1,4 @@
+pub mod Fitting
+pub mod Refusing
+pub mod Standing
+pub mod Steps

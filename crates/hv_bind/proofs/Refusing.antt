@@ -1,0 +1,64 @@
+-- Refusals of a select, one behind another.
+use Rattle.std.proofs.Common.{◌≡◌, ℕ, ◌+◌, ◌≤◌, List, [], ◌∷◌, ◌++◌, length, Option, Some, None, refl, sym, ap, ◌∙◌, arith, true, nat_le, inl, inr}
+use Rattle.std.specs.Option.{option_or}
+use Rattle.std.proofs.lemmas.Bool.{cases_lt}
+use Rattle.std.proofs.lemmas.Bool.Decides.{nat_tests}
+use Rattle.hv_model.specs.declared.tree.PlaceAst.{PlaceAst}
+use Rattle.hv_model.specs.declared.tree.KeyAst.{KeyAst}
+use Rattle.hv_model.specs.declared.tree.SelectAst.{SelectAst}
+use Rattle.hv_model.specs.declared.catalogue.TableHead.{TableHead}
+use Rattle.hv_model.specs.declared.query.Item.{Item}
+use Rattle.hv_model.specs.declared.reply.Refusal.{Refusal}
+use Rattle.hv_model.specs.Scope.{place_refusal, refusal_behind, places_refusal}
+use Rattle.hv_model.specs.Bound.{first_of, all_items, names_refusal, grouping_refusal, order_refusal, bind_refusal}
+use Rattle.hv_bind.specs.declared.binding.BindFault.{BindFault}
+use Rattle.hv_bind.specs.declared.binding.BindFault.TheVariants.{Refused, Memory}
+use Rattle.hv_bind.specs.Cause.{Explains}
+use Rattle.hv_bind.specs.Keys.{keys_refusal}
+
+-- ---- FROM places
+
+rest_of : (point rest : Option Refusal) → option_or point rest ≡ None → rest ≡ None
+rest_of None rest none = none
+rest_of (Some r) rest none = absurd cc
+
+-- the fifth place is refused
+refused : (before : List PlaceAst) (at : ℕ) (absent : Option ℕ) (p : PlaceAst) (rest : Option Refusal) → 4 ≤ at → option_or (place_refusal before at absent p) rest ≡ None → ⊥
+refused before at absent p rest le none =
+    let past : nat_le 4 at ≡ true = grind (arith, nat_tests) in
+    let none' = rw past at none in
+    absurd cc
+
+few_behind : (before : List PlaceAst) (at : ℕ) (absent : Option ℕ) (ps : List PlaceAst) → at ≤ 4 → refusal_behind before at absent ps ≡ None → at + length ps ≤ 4
+few_behind before at absent [] in_range none = omega arith
+few_behind before at absent (p ∷ ps) in_range none =
+    elim (cases_lt at 4) [
+      | inl lt ↦ omega (arith, few_behind (before ++ p ∷ []) (at + 1) absent ps (omega arith) (rest_of (place_refusal before at absent p) (refusal_behind (before ++ p ∷ []) (at + 1) absent ps) none))
+      | inr le ↦ absurd (refused before at absent p (refusal_behind (before ++ p ∷ []) (at + 1) absent ps) le none)
+    ]
+
+pub few_places : (ps : List PlaceAst) (absent : Option ℕ) → places_refusal ps absent ≡ None → length ps ≤ 4
+few_places ps absent none = omega (arith, few_behind [] 0 absent ps (omega arith) none)
+
+-- ---- the parts of a select
+
+none_behind : (point : Option Refusal) → option_or point None ≡ point
+none_behind None = refl
+none_behind (Some r) = refl
+
+last_of : (a b c : Option Refusal) → a ≡ None → b ≡ None → first_of (a ∷ b ∷ c ∷ []) ≡ c
+last_of a b c e f = ap (λ z. option_or z (option_or b (option_or c None))) e ∙ ap (λ z. option_or z (option_or c None)) f ∙ none_behind c
+
+-- where names and plain columns are allowed, order keys are what is refused
+pub order_last : (x : SelectAst) (heads : List TableHead) → names_refusal x heads ≡ None → grouping_refusal x heads ≡ None → bind_refusal x heads ≡ order_refusal x heads
+order_last x heads e f = last_of (names_refusal x heads) (grouping_refusal x heads) (order_refusal x heads) e f
+
+-- order keys over all items
+pub order_of : (x : SelectAst) (heads : List TableHead) (places : List PlaceAst) (items : List Item) (keys : List KeyAst) → places ≡ x.places → items ≡ all_items x.places heads x.items → keys ≡ x.order → keys_refusal places heads items keys ≡ order_refusal x heads
+order_of x heads places items keys p i k =
+    ap (λ z. keys_refusal z heads items keys) p ∙ ap (λ z. keys_refusal x.places heads z keys) i ∙ ap (keys_refusal x.places heads (all_items x.places heads x.items)) k
+
+-- what explains a refusal explains the same
+pub explains_same : (a b : Option Refusal) (fault : BindFault) → a ≡ b → Explains a fault → Explains b fault
+explains_same a b (Refused r) e h = sym e ∙ h
+explains_same a b Memory e h = tt

@@ -1,0 +1,14 @@
+pub mod Orders
+pub mod Kept
+pub mod Mapped
+pub mod Aggregates
+pub mod Keys
+pub mod Standing
+pub mod Putting
+pub mod Bags
+pub mod Choice
+pub mod Conjuncts
+pub mod Grouped
+pub mod Lawful
+pub mod Ordered
+pub mod Shuffled

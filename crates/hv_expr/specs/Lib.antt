@@ -1,0 +1,4 @@
+pub mod Cause
+pub mod Loops
+pub mod Grouping
+pub mod Laws
