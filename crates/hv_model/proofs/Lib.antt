@@ -1,6 +1,5 @@
 pub mod Places
 pub mod SoFar
 pub mod TokenLaws
-pub mod TreeLaws
 pub mod Whole
 pub mod QueryLaws

@@ -18,10 +18,10 @@ use Rattle.hv_model.specs.declared.reply.Failure.{Failure}
 use Rattle.hv_model.specs.declared.query.Cell.{Cell}
 use Rattle.hv_model.specs.declared.reply.Reply.{Reply}
 use Rattle.hv_model.specs.declared.reply.Reply.TheVariants.{Done, Rows, Refused, Failed}
-use Rattle.hv_model.specs.Built.{tree_of}
+use Rattle.hv_model.specs.Parsed.{tree_of}
 use Rattle.hv_model.specs.Database.{step, empty_database}
-use Rattle.hv_model.specs.Command.{refusal, statements, statement_named, is_named, after_entry, command_at, database_after, entry_at}
-use Rattle.hv_model.specs.Legal.{number_of, is_done, Names, Accepted, Answered, FollowsNumber, may_fail}
+use Rattle.hv_model.specs.Command.{statements, statement_named, is_named, after_entry, command_at, database_after, entry_at}
+use Rattle.hv_model.specs.Legal.{number_of, is_done, Names, Accepted, Answered, IsRefusedFor, FollowsNumber, may_fail}
 use Rattle.hv_model.specs.OneSession.{IsOneSession, Commits, Stays, Settles, LegalSoFar, Kept}
 use Rattle.hv_model.proofs.Places.{slice_get-more, slice_get-kept, slice_get-last}
 
@@ -150,7 +150,7 @@ same_at xs n k x y at_n at_k same = let e : slice_get xs n ≡ Some y = subst (�
 stays_more : (s : Script) (xs : List Statement) (max : ℕ) (tells : Bool) (history : List Entry) (rs : List Reply) (x : Statement) (r : Reply)
     → LegalSoFar s xs max tells history rs → slice_get xs (length rs) ≡ Some x → is_done r ≡ false → number_of r ≡ length history
     → ((n : ℕ) (rows : List (List _)) → r ≡ Rows n rows → Answered x (database_after s history n) max tells rows)
-    → ((n : ℕ) (cause : _) → r ≡ Refused n cause → refusal x (database_after s history n) max ≡ Some cause)
+    → ((n : ℕ) (cause : _) → r ≡ Refused n cause → IsRefusedFor x (database_after s history n) max tells cause)
     → ((n : ℕ) (cause : Failure) → r ≡ Failed n cause → may_fail (tree_of x.text) cause ≡ true)
     → LegalSoFar s xs max tells history (rs ++ r ∷ [])
 stays_more s xs max tells history rs x r legal stands not_done number rows_ok refused_ok failed_ok = record {
@@ -177,7 +177,7 @@ stays_more s xs max tells history rs x r legal stands not_done number rows_ok re
   ]);
   refused = (λ k y n cause at_k reply. elim (slice_get-more rs r k (Refused n cause) reply) [
     | inl old ↦ legal.refused k y n cause at_k old.stands
-    | inr last ↦ subst (λ (z : Statement). refusal z (database_after s history n) max ≡ Some cause) (same_at xs (length rs) k x y stands at_k last.at) (refused_ok n cause last.same)
+    | inr last ↦ subst (λ (z : Statement). IsRefusedFor z (database_after s history n) max tells cause) (same_at xs (length rs) k x y stands at_k last.at) (refused_ok n cause last.same)
   ]);
   failed = (λ k y n cause at_k reply. elim (slice_get-more rs r k (Failed n cause) reply) [
     | inl old ↦ legal.failed k y n cause at_k old.stands
@@ -280,7 +280,7 @@ at_present s xs max tells before new history longer rs r kept stays n e = rw (sy
 stays_kept : (s : Script) (xs : List Statement) (max : ℕ) (tells : Bool) (before new : Database) (history longer : List Entry) (rs : List Reply) (x : Statement) (r : Reply)
     → Kept s xs max tells before history rs → slice_get xs (length rs) ≡ Some x → is_done r ≡ false → Stays before history (number_of r) new longer
     → ((n : ℕ) (rows : List (List Cell)) → r ≡ Rows n rows → Answered x before max tells rows)
-    → ((n : ℕ) (cause : Refusal) → r ≡ Refused n cause → refusal x before max ≡ Some cause)
+    → ((n : ℕ) (cause : Refusal) → r ≡ Refused n cause → IsRefusedFor x before max tells cause)
     → ((n : ℕ) (cause : Failure) → r ≡ Failed n cause → may_fail (tree_of x.text) cause ≡ true)
     → Kept s xs max tells new longer (rs ++ r ∷ [])
 stays_kept s xs max tells before new history longer rs x r kept stands not_done stays rows_ok refused_ok failed_ok =
@@ -311,7 +311,7 @@ kept_next s xs max tells before new history longer rs x (Rows at rows) one kept 
 kept_next s xs max tells before new history longer rs x (Refused at cause) one kept stands settles =
     stays_kept s xs max tells before new history longer rs x (Refused at cause) kept stands refl settles.0
     (λ n rows e. absurd cc)
-    (λ n other e. let same : cause ≡ other = cc in settles.1 ∙ ap (λ (z : Refusal). Some z) same)
+    (λ n other e. let same : cause ≡ other = cc in subst (λ (z : Refusal). IsRefusedFor x before max tells z) same settles.1)
     (λ n other e. absurd cc)
 kept_next s xs max tells before new history longer rs x (Failed at cause) one kept stands settles =
     stays_kept s xs max tells before new history longer rs x (Failed at cause) kept stands refl settles.0

@@ -1,7 +1,7 @@
 -- The bound query of a select, or its first refusal. ISO/IEC 9075, query specification; the order of refusals and their bytes are this project's own.
-use Rattle.std.specs.Prelude.{ℕ, ◌-◌, nat_le, Bool, true, false, not, ◌&&◌, ◌||◌, List, [], ◌∷◌, ◌++◌, length, map, Option, Some, None, Result, Ok, Err, position, if◌then◌else◌}
+use Rattle.std.specs.Prelude.{ℕ, ◌-◌, nat_le, Bool, true, false, ◌&&◌, ◌||◌, List, [], ◌∷◌, length, map, Option, Some, None, Result, Ok, Err, position, if◌then◌else◌}
 use Rattle.std.specs.List.{list_any, list_all, flat_map}
-use Rattle.std.specs.Option.{option_or, option_map, unwrap_or}
+use Rattle.std.specs.Option.{option_or, unwrap_or}
 use Rattle.hv_row.specs.declared.schema.Column.{Column}
 use Rattle.hv_model.specs.declared.tree.RefAst.{RefAst}
 use Rattle.hv_model.specs.declared.tree.ItemAst.{ItemAst}
@@ -29,7 +29,7 @@ use Rattle.hv_model.specs.declared.query.BoundQuery.{BoundQuery}
 use Rattle.hv_model.specs.declared.reply.Refusal.{Refusal}
 use Rattle.hv_model.specs.declared.reply.Refusal.TheVariants.{TypeMismatch, NotGrouped, NoOutput}
 use Rattle.hv_model.specs.Scope.{resolved, column_at, all_columns}
-use Rattle.hv_model.specs.Fits.{kind_of, operand_kind, same_kind, is_int, same_column, is_plain_item}
+use Rattle.hv_model.specs.Fits.{kind_of, operand_kind, same_kind, is_int, same_column}
 
 -- the first refusal of a list of points, each of which may stand
 abbrev pub first_of : List (Option Refusal) → Option Refusal

@@ -2,6 +2,7 @@
 use Rattle.std.specs.Prelude.{ℕ, Bool, not, ◌&&◌, ◌==◌, nat_le, nat_lt, List, [], ◌∷◌, length, Option, Some, None, ◌^◌, if◌then◌else◌}
 use Rattle.std.specs.List.{slice_split, list_all}
 use Rattle.std.specs.Option.{option_map, option_and_then}
+use Rattle.std.specs.Str.{is_utf8}
 use Rattle.std.specs.Str.Parse.{digits_value, without_leading_sign, signed_digits_value, starts_with_minus}
 use Rattle.hv_row.specs.declared.value.Value.{Value}
 use Rattle.hv_row.specs.declared.value.Value.TheVariants.{Int, Text}
@@ -12,9 +13,9 @@ use Rattle.hv_row.specs.Row.{row_bytes}
 use Rattle.hv_model.specs.Token.{is_number}
 use Rattle.hv_model.specs.Script.{line_list}
 
--- bytes that every reading of comma-separated data takes for themselves: no quote, no carriage return, none over 127
+-- bytes that every reading of comma-separated data takes for themselves: no quote, no carriage return
 abbrev pub is_plain_byte : ℕ → Bool
-is_plain_byte b = nat_lt b 128 && not (b == 34) && not (b == 13)
+is_plain_byte b = not (b == 34) && not (b == 13)
 
 -- whether the amount of a number with this sign lies in the range of 64-bit numbers
 abbrev pub amount_fits : Bool → ℕ → Bool
@@ -24,10 +25,14 @@ amount_fits minus amount = if minus then nat_le amount (2 ^ 63) else nat_lt amou
 abbrev pub is_integer : List ℕ → Bool
 is_integer field = is_number (without_leading_sign field) && amount_fits (starts_with_minus field) (digits_value 10 (without_leading_sign field))
 
+-- whether a field is a text: UTF-8 of at most 255 bytes
+abbrev pub is_text : List ℕ → Bool
+is_text field = nat_le (length field) 255 && is_utf8 field
+
 -- the value of a field under a column's type
 abbrev pub field_value : ColType → List ℕ → Option Value
 field_value kind.Int field = if is_integer field then Some (Int (signed_digits_value 10 field)) else None
-field_value kind.Text field = if nat_le (length field) 255 then Some (Text field) else None
+field_value kind.Text field = if is_text field then Some (Text field) else None
 
 -- a value before those of the other columns
 abbrev pub value_before : Option Value → Option (List Value) → Option (List Value)

@@ -1,10 +1,10 @@
 -- When a history and replies are a legal outcome of a script. This project's own.
-use Rattle.std.specs.Prelude.{◌≡◌, ℕ, ◌+◌, ◌-◌, ◌<◌, ◌≤◌, Bool, true, false, List, length, take, map, Option, Some, None, Ok, IsSome, position, count_by, slice_get}
+use Rattle.std.specs.Prelude.{◌≡◌, ◌⊎◌, ℕ, ◌+◌, ◌-◌, ◌<◌, ◌≤◌, Bool, true, false, List, [], length, take, map, Option, Some, None, Ok, IsSome, position, count_by, slice_get}
 use Rattle.std.specs.List.{flat_map}
 use Rattle.std.specs.Option.{option_and_then}
 use Rattle.hv_row.specs.Schema.{same_name}
-use Rattle.hv_model.specs.declared.built.Built.{Built}
-use Rattle.hv_model.specs.declared.built.Built.TheVariants as tree
+use Rattle.hv_model.specs.declared.tree.Ast.{Ast}
+use Rattle.hv_model.specs.declared.tree.Ast.TheVariants as ast
 use Rattle.hv_model.specs.declared.script.Statement.{Statement}
 use Rattle.hv_model.specs.declared.script.Script.{Script}
 use Rattle.hv_model.specs.declared.catalogue.Database.{Database}
@@ -14,14 +14,15 @@ use Rattle.hv_model.specs.declared.catalogue.Entry.{Entry}
 use Rattle.hv_model.specs.declared.reply.Reply.{Reply}
 use Rattle.hv_model.specs.declared.reply.Reply.TheVariants as reply
 use Rattle.hv_model.specs.declared.reply.Refusal.{Refusal}
+use Rattle.hv_model.specs.declared.reply.Refusal.TheVariants.{EmptyAggregate}
 use Rattle.hv_model.specs.declared.reply.Failure.{Failure}
 use Rattle.hv_model.specs.declared.reply.Failure.TheVariants as failure
 use Rattle.hv_model.specs.declared.query.BoundQuery.{BoundQuery}
 use Rattle.hv_model.specs.declared.query.Cell.{Cell}
-use Rattle.hv_model.specs.Built.{tree_of}
+use Rattle.hv_model.specs.Parsed.{tree_of}
 use Rattle.hv_model.specs.Database.{step}
-use Rattle.hv_model.specs.Answer.{IsAnswer}
-use Rattle.hv_model.specs.Command.{statements, command_at, bound, refusal, detail_of, database_after, entry_at}
+use Rattle.hv_model.specs.Answer.{IsAnswer, is_empty_aggregate}
+use Rattle.hv_model.specs.Command.{statements, command_at, bound, early_refusal, refusal, detail_of, database_after, entry_at}
 
 -- the length of the history that a reply tells
 abbrev pub number_of : Reply → ℕ
@@ -118,11 +119,12 @@ WithinPhases s replies upper =
     (p k : ℕ) (phase : List Statement) (x : Statement) (r : Reply) → slice_get s.phases p ≡ Some phase → slice_get phase k ≡ Some x
     → reply_to s replies x ≡ Some r → (done_before s replies p ≤ number_of r) × (number_of r ≤ upper p)
 
--- the statement has a query at a database that doesn't refuse it; and rows are its answer, where the files tell what they hold
+-- the statement has a query at a database; where the files tell what they hold nothing refuses it, and the rows are its answer
 pub record Answered (x : Statement) (s : Database) (max : ℕ) (tells : Bool) (rows : List (List Cell)) : Type 0 where
   pub query : BoundQuery
-  pub allowed : refusal x s max ≡ None
   pub is : bound x s ≡ Some query
+  pub early : early_refusal x s ≡ None
+  pub allowed : tells ≡ true → refusal x s max ≡ None
   pub answer : tells ≡ true → IsAnswer query s rows
 
 -- each Rows reply is an answer over the database after as many entries as it tells
@@ -131,28 +133,36 @@ RowsAreAnswers s max tells history replies =
     (x : Statement) (n : ℕ) (rows : List (List Cell)) → Stands s x → reply_to s replies x ≡ Some (reply.Rows n rows)
     → Answered x (database_after s history n) max tells rows
 
+-- a refusal for want of combinations, of a query that is refused where it has none
+pub record IsOverNone (x : Statement) (s : Database) (cause : Refusal) : Type 0 where
+  pub is : cause ≡ EmptyAggregate
+  pub query : BoundQuery
+  pub means : bound x s ≡ Some query
+  pub over_none : is_empty_aggregate query [] ≡ true
+
+-- a refusal is the statement's at a database, where the files tell what they hold; over others it is so but for one for want of combinations
+pub record IsRefusedFor (x : Statement) (s : Database) (max : ℕ) (tells : Bool) (cause : Refusal) : Type 0 where
+  pub told : tells ≡ true → refusal x s max ≡ Some cause
+  pub cause_is : (early_refusal x s ≡ Some cause) ⊎ IsOverNone x s cause
+
 -- each Refused reply tells the refusal at the database after as many entries as it tells
-abbrev pub RefusalsAreCaused : Script → ℕ → List Entry → List (List Reply) → Type 0
-RefusalsAreCaused s max history replies =
+abbrev pub RefusalsAreCaused : Script → ℕ → Bool → List Entry → List (List Reply) → Type 0
+RefusalsAreCaused s max tells history replies =
     (x : Statement) (n : ℕ) (cause : Refusal) → Stands s x → reply_to s replies x ≡ Some (reply.Refused n cause)
-    → refusal x (database_after s history n) max ≡ Some cause
+    → IsRefusedFor x (database_after s history n) max tells cause
 
 -- whether a statement with this tree reads pages
-abbrev pub reads_pages : Option Built → Bool
-reads_pages None = false
-reads_pages (Some (tree.Create name columns)) = false
-reads_pages (Some (tree.Import name wanted)) = false
-reads_pages (Some (tree.SelectAll name)) = true
+abbrev pub reads_pages : Option Ast → Bool
+reads_pages (Some (ast.Select x)) = true
+reads_pages _ = false
 
 -- whether a statement with this tree writes pages
-abbrev pub writes_pages : Option Built → Bool
-writes_pages None = false
-writes_pages (Some (tree.Create name columns)) = false
-writes_pages (Some (tree.Import name wanted)) = true
-writes_pages (Some (tree.SelectAll name)) = false
+abbrev pub writes_pages : Option Ast → Bool
+writes_pages (Some (ast.Import table wanted)) = true
+writes_pages _ = false
 
 -- whether a statement with this tree may fail so: a read and a damaged page are of one that reads pages, a write is of one that writes them
-abbrev pub may_fail : Option Built → Failure → Bool
+abbrev pub may_fail : Option Ast → Failure → Bool
 may_fail tree failure.Read = reads_pages tree
 may_fail tree failure.Write = writes_pages tree
 may_fail tree (failure.Damaged chunk page why) = reads_pages tree
@@ -164,7 +174,7 @@ FailuresAreCaused s replies =
     (x : Statement) (n : ℕ) (cause : Failure) → Stands s x → reply_to s replies x ≡ Some (reply.Failed n cause)
     → may_fail (tree_of x.text) cause ≡ true
 
--- what holds of the replies so far, with the greatest number that each phase may have; rows are the answers where the files tell what they hold
+-- what holds of the replies so far, with the greatest number that each phase may have
 pub record LegalUpTo (s : Script) (max : ℕ) (tells : Bool) (upper : ℕ → ℕ) (history : List Entry) (replies : List (List Reply)) : Type 0 where
   pub entries : EntriesAreDone s history replies
   pub done : DoneAreEntries s history replies
@@ -172,11 +182,11 @@ pub record LegalUpTo (s : Script) (max : ℕ) (tells : Bool) (upper : ℕ → �
   pub along : RisesAlong s replies
   pub phases : WithinPhases s replies upper
   pub rows : RowsAreAnswers s max tells history replies
-  pub refused : RefusalsAreCaused s max history replies
+  pub refused : RefusalsAreCaused s max tells history replies
   pub failed : FailuresAreCaused s replies
 
 -- a legal outcome of a script: one history, and one reply to each statement. All of it holds where the files tell what they hold; over
--- others all but what the rows are
+-- others all but what the rows are and whether there are any
 pub record Legal (s : Script) (max : ℕ) (tells : Bool) (history : List Entry) (replies : List (List Reply)) : Type 0 where
   pub once : EachOnce s replies
   pub parts : LegalUpTo s max tells (λ p. done_before s replies (p + 1)) history replies

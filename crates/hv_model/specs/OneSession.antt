@@ -11,10 +11,10 @@ use Rattle.hv_model.specs.declared.reply.Reply.TheVariants.{Done, Rows, Refused,
 use Rattle.hv_model.specs.declared.reply.Refusal.{Refusal}
 use Rattle.hv_model.specs.declared.reply.Failure.{Failure}
 use Rattle.hv_model.specs.declared.query.Cell.{Cell}
-use Rattle.hv_model.specs.Built.{tree_of}
+use Rattle.hv_model.specs.Parsed.{tree_of}
 use Rattle.hv_model.specs.Database.{step}
-use Rattle.hv_model.specs.Command.{command_at, refusal, detail_of, database_after, entry_at}
-use Rattle.hv_model.specs.Legal.{number_of, is_done, Names, Accepted, Answered, FollowsNumber, may_fail}
+use Rattle.hv_model.specs.Command.{command_at, detail_of, database_after, entry_at}
+use Rattle.hv_model.specs.Legal.{number_of, is_done, Names, Accepted, Answered, IsRefusedFor, FollowsNumber, may_fail}
 
 -- the script has the session `main` alone, and one phase of these statements, numbered from 1
 pub record IsOneSession (s : Script) (xs : List Statement) : Type 0 where
@@ -45,7 +45,7 @@ pub record Stays (before : Database) (history : List Entry) (at : ℕ) (new : Da
 abbrev pub Settles : Statement → ℕ → Bool → Database → List Entry → Reply → Database → List Entry → Type 0
 Settles x max tells before history (Done at what) new longer = Commits x before history at what new longer
 Settles x max tells before history (Rows at rows) new longer = Stays before history at new longer × Answered x before max tells rows
-Settles x max tells before history (Refused at cause) new longer = Stays before history at new longer × (refusal x before max ≡ Some cause)
+Settles x max tells before history (Refused at cause) new longer = Stays before history at new longer × IsRefusedFor x before max tells cause
 Settles x max tells before history (Failed at cause) new longer = Stays before history at new longer × (may_fail (tree_of x.text) cause ≡ true)
 
 -- an entry names a statement that has its Done reply
@@ -74,7 +74,7 @@ pub record LegalSoFar (s : Script) (xs : List Statement) (max : ℕ) (tells : Bo
   pub rows : (k : ℕ) (x : Statement) (n : ℕ) (rows : List (List Cell)) → slice_get xs k ≡ Some x → slice_get replies k ≡ Some (Rows n rows)
       → Answered x (database_after s history n) max tells rows
   pub refused : (k : ℕ) (x : Statement) (n : ℕ) (cause : Refusal) → slice_get xs k ≡ Some x → slice_get replies k ≡ Some (Refused n cause)
-      → refusal x (database_after s history n) max ≡ Some cause
+      → IsRefusedFor x (database_after s history n) max tells cause
   pub failed : (k : ℕ) (x : Statement) (n : ℕ) (cause : Failure) → slice_get xs k ≡ Some x → slice_get replies k ≡ Some (Failed n cause)
       → may_fail (tree_of x.text) cause ≡ true
   pub counted : count_by is_done replies ≡ length history

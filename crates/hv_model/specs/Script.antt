@@ -1,18 +1,25 @@
 -- Which statements the bytes of a script are, or what its first fault is. This project's own.
-use Rattle.std.specs.Prelude.{◌≡◌, ◌⊎◌, ℕ, ◌+◌, ◌<◌, ◌≤◌, Bool, true, false, not, ◌||◌, ◌&&◌, ◌==◌, nat_le, List, [], ◌∷◌, ◌++◌, length, Option, Some, None, codes, IsSome, if◌then◌else◌}
+use Rattle.std.specs.Prelude.{◌≡◌, ◌⊎◌, ℕ, ◌+◌, ◌<◌, ◌≤◌, Bool, true, false, not, ◌||◌, ◌&&◌, ◌==◌, List, [], ◌∷◌, ◌++◌, length, Option, Some, None, codes, IsSome, IsUtf8, if◌then◌else◌}
 use Rattle.std.specs.List.{onto_first, list_all}
-use Rattle.hv_model.specs.declared.built.Built.{Built}
-use Rattle.hv_model.specs.declared.built.Built.TheVariants.{Create, Import, SelectAll}
+use Rattle.std.specs.Str.{IsValidUpTo}
 use Rattle.hv_model.specs.declared.script.Statement.{Statement}
 use Rattle.hv_model.specs.declared.script.Script.{Script}
 use Rattle.hv_model.specs.declared.script.FaultName.{FaultName}
-use Rattle.hv_model.specs.declared.script.FaultName.TheVariants.{TooLong, Unended, ShortImport}
+use Rattle.hv_model.specs.declared.script.FaultName.TheVariants.{TooLong, NotUtf8, Unended, LongImport, ShortImport, TooManyStatements}
 use Rattle.hv_model.specs.Token.{is_white}
-use Rattle.hv_model.specs.Built.{tree_of}
+use Rattle.hv_model.specs.Parsed.{lines_wanted}
 
 -- the most bytes of a script
 abbrev pub most_bytes : ℕ
 most_bytes = 67108864
+
+-- the most lines of an import
+abbrev pub most_lines : ℕ
+most_lines = 1000000
+
+-- the most statements of a script
+abbrev pub most_statements : ℕ
+most_statements = 1000000
 
 -- what may stand between statements: white space and `;`, so that empty statements are passed over
 abbrev pub is_blank : ℕ → Bool
@@ -63,13 +70,6 @@ data_from (Some data_bytes) behind = data_bytes
 abbrev pub data_behind : List ℕ → List ℕ
 data_behind behind = data_from (behind_gap behind) behind
 
--- how many lines a statement takes: those of an import, if they are at most 1,000,000
-abbrev pub lines_wanted : Option Built → ℕ
-lines_wanted (Some (Import _ lines)) = if nat_le lines 1000000 then lines else 0
-lines_wanted (Some (Create _ _)) = 0
-lines_wanted (Some (SelectAll _)) = 0
-lines_wanted None = 0
-
 -- `lines` are the data of a statement that wants so many lines, and `after` is what is left of the bytes behind its `;`
 pub record TakesLines (wanted : ℕ) (behind lines after : List ℕ) : Type 0 where
   pub none : wanted ≡ 0 → (lines ≡ []) × (after ≡ behind)
@@ -84,7 +84,8 @@ pub record Takes (bytes : List ℕ) (x : Statement) (after : List ℕ) : Type 0 
   pub blank : list_all is_blank blanks ≡ true
   pub text : IsText x.text
   pub is : bytes ≡ blanks ++ (x.text ++ 59 ∷ behind)
-  pub data_lines : TakesLines (lines_wanted (tree_of x.text)) behind x.lines after
+  pub few : lines_wanted x.text ≤ most_lines
+  pub data_lines : TakesLines (lines_wanted x.text) behind x.lines after
 
 -- the bytes begin with these statements of the session `main`, numbered on from k, and `rest` is what is left
 abbrev pub Statements : List ℕ → ℕ → List Statement → List ℕ → Type 0
@@ -95,19 +96,33 @@ Statements bytes k (x ∷ xs) rest =
 -- the bytes are this script, which has no fault: one session, one phase
 pub record IsScript (bytes : List ℕ) (s : Script) : Type 0 where
   pub short : length bytes ≤ most_bytes
+  pub utf8 : IsUtf8 bytes
   pub statements : List Statement
   pub rest : List ℕ
   pub read : Statements bytes 1 statements rest
+  pub count : length statements ≤ most_statements
   pub blank : list_all is_blank rest ≡ true
   pub sessions : s.sessions ≡ codes "main" ∷ []
   pub phases : s.phases ≡ statements ∷ []
 
+-- the bytes are no UTF-8; the length of the longest front that is one is told
+pub record IsNotUtf8 (bytes : List ℕ) (byte : ℕ) : Type 0 where
+  pub short : length bytes ≤ most_bytes
+  pub none : ¬ (IsUtf8 bytes)
+  pub longest : IsValidUpTo bytes byte
+
+-- the bytes begin with statements without a fault, at most as many as a script has, and `rest` is what is left
+pub record ReadsTo (bytes rest : List ℕ) : Type 0 where
+  pub short : length bytes ≤ most_bytes
+  pub utf8 : IsUtf8 bytes
+  pub statements : List Statement
+  pub read : Statements bytes 1 statements rest
+  pub count : length statements ≤ most_statements
+
 -- behind statements without a fault stands one that no `;` ends; its first byte is told
 pub record IsUnended (bytes : List ℕ) (byte : ℕ) : Type 0 where
-  pub short : length bytes ≤ most_bytes
-  pub statements : List Statement
   pub rest : List ℕ
-  pub read : Statements bytes 1 statements rest
+  pub front : ReadsTo bytes rest
   pub blanks : List ℕ
   pub text : List ℕ
   pub blank : list_all is_blank blanks ≡ true
@@ -116,23 +131,46 @@ pub record IsUnended (bytes : List ℕ) (byte : ℕ) : Type 0 where
   pub is : rest ≡ blanks ++ text
   pub at : byte + length text ≡ length bytes
 
--- behind statements without a fault stands an import that wants more lines than follow; its first byte is told
-pub record IsShortImport (bytes : List ℕ) (byte : ℕ) : Type 0 where
-  pub short : length bytes ≤ most_bytes
-  pub statements : List Statement
+-- behind statements without a fault stands one with its `;`, of this text and with these bytes behind; its first byte is told
+pub record Follows (bytes : List ℕ) (byte : ℕ) (text behind : List ℕ) : Type 0 where
   pub rest : List ℕ
-  pub read : Statements bytes 1 statements rest
+  pub front : ReadsTo bytes rest
   pub blanks : List ℕ
-  pub text : List ℕ
-  pub behind : List ℕ
   pub blank : list_all is_blank blanks ≡ true
   pub text_is : IsText text
   pub is : rest ≡ blanks ++ (text ++ 59 ∷ behind)
-  pub few : length (line_list (data_behind behind)) < lines_wanted (tree_of text)
   pub at : byte + length (text ++ 59 ∷ behind) ≡ length bytes
 
--- the bytes have this fault, and this byte is told
+-- it is an import that wants more lines than any takes
+pub record IsLongImport (bytes : List ℕ) (byte : ℕ) : Type 0 where
+  pub text : List ℕ
+  pub behind : List ℕ
+  pub follows : Follows bytes byte text behind
+  pub many : most_lines < lines_wanted text
+
+-- it is an import that wants more lines than follow
+pub record IsShortImport (bytes : List ℕ) (byte : ℕ) : Type 0 where
+  pub text : List ℕ
+  pub behind : List ℕ
+  pub follows : Follows bytes byte text behind
+  pub allowed : lines_wanted text ≤ most_lines
+  pub few : length (line_list (data_behind behind)) < lines_wanted text
+
+-- it has its lines, and as many stand before it as a script has
+pub record IsOneTooMany (bytes : List ℕ) (byte : ℕ) : Type 0 where
+  pub text : List ℕ
+  pub behind : List ℕ
+  pub follows : Follows bytes byte text behind
+  pub full : length follows.front.statements ≡ most_statements
+  pub allowed : lines_wanted text ≤ most_lines
+  pub enough : lines_wanted text ≤ length (line_list (data_behind behind))
+
+-- the bytes have this fault, and this byte is told: too many bytes come first, then bytes that are no UTF-8, then the first statement at fault;
+-- at one statement the fault that stands first here
 abbrev pub IsFault : List ℕ → FaultName → ℕ → Type 0
 IsFault bytes TooLong byte = (most_bytes < length bytes) × (byte ≡ most_bytes)
+IsFault bytes NotUtf8 byte = IsNotUtf8 bytes byte
 IsFault bytes Unended byte = IsUnended bytes byte
+IsFault bytes LongImport byte = IsLongImport bytes byte
 IsFault bytes ShortImport byte = IsShortImport bytes byte
+IsFault bytes TooManyStatements byte = IsOneTooMany bytes byte

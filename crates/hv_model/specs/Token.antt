@@ -1,6 +1,6 @@
 -- The tokens of a statement's text. This project's own, after the lexical elements of ISO/IEC 9075.
-use Rattle.std.specs.Prelude.{ℕ, Bool, false, not, ◌||◌, ◌&&◌, ◌==◌, nat_le, nat_eq, List, [], ◌∷◌, length, map, codes, if◌then◌else◌}
-use Rattle.std.specs.List.{onto_first, list_any, list_all}
+use Rattle.std.specs.Prelude.{ℕ, Bool, false, not, ◌||◌, ◌&&◌, ◌==◌, nat_le, nat_eq, List, [], ◌∷◌, length, map, codes}
+use Rattle.std.specs.List.{list_any, list_all}
 use Rattle.std.specs.Char.{to_ascii_lowercase}
 use Rattle.std.specs.Cmp.Lexicographic.{pointwise}
 
@@ -19,16 +19,6 @@ begins_name b = (nat_le 65 b && nat_le b 90) || (nat_le 97 b && nat_le b 122) ||
 -- what a name may go on with
 abbrev pub is_name_byte : ℕ → Bool
 is_name_byte b = begins_name b || is_digit b
-
--- whether the first byte may stand in a name
-abbrev pub goes_on : List ℕ → Bool
-goes_on [] = false
-goes_on (b ∷ _) = is_name_byte b
-
--- the tokens of a text: each longest run of letters, digits and `_`, and each other byte that isn't white by itself
-abbrev pub tokens : List ℕ → List (List ℕ)
-tokens [] = []
-tokens (b ∷ bs) = if is_white b then tokens bs else (if is_name_byte b && goes_on bs then onto_first b (tokens bs) else (b ∷ []) ∷ tokens bs)
 
 -- whether a token is this word, in any case of its letters
 abbrev pub is_word : List ℕ → List ℕ → Bool
@@ -59,7 +49,3 @@ is_name token = begins_as_name token && nat_le (length token) 30 && not (is_keyw
 -- whether bytes are one digit or more
 abbrev pub is_number : List ℕ → Bool
 is_number token = nat_le 1 (length token) && list_all is_digit token
-
--- whether a token is this one byte
-abbrev pub is_symbol : ℕ → List ℕ → Bool
-is_symbol b token = pointwise nat_eq token (b ∷ [])

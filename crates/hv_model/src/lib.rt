@@ -2,11 +2,9 @@
 //! Nothing here has a page, a file or a budget.
 #![tactic(auto)]
 
-mod built;
 mod catalogue;
 mod lexeme;
 mod query;
-mod reading;
 mod reply;
 mod script;
 #[cfg(test)]
@@ -14,7 +12,6 @@ mod tests;
 mod token;
 mod tree;
 
-pub use built::Built;
 pub use catalogue::{
     Chunk, Chunks, Command, Database, Detail, Entries, Entry, StepRefusal, Table, TableHead, Tables,
 };
@@ -23,12 +20,10 @@ pub use query::{
     BoundQuery, Cell, ColRef, ColRefs, Combo, Combos, Cond, Item, Items, Operand, OutRow, OutRows,
     Places, PlainTables, SortKey, SortKeys,
 };
-pub use reading::{MAX_IMPORT_LINES, lines_wanted, tree_of};
 pub use reply::{Failure, Refusal, Replies, Reply, Why};
 pub use script::{FaultName, Options, Phase, Phases, Script, ScriptFault, SessionNames, Statement};
 pub use token::{
-    LINES_CAP, MAX_NAME_BYTES, is_name, is_number, is_symbol, is_white, is_word, next_token,
-    number_capped,
+    MAX_NAME_BYTES, begins_name, is_digit, is_name_byte, is_number, is_white, is_word,
 };
 pub use tree::{
     Ast, Cmp, CondAst, ItemAst, ItemAsts, KeyAst, KeyAsts, KeyBy, Numbers, OperandAst, PlaceAst,

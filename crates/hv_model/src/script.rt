@@ -31,10 +31,16 @@ pub struct Script {
 pub enum FaultName {
     /// It has more than 67,108,864 bytes.
     TooLong,
+    /// Its bytes are no UTF-8.
+    NotUtf8,
     /// A statement with text has no ending `;`.
     Unended,
+    /// An import wants more than 1,000,000 lines.
+    LongImport,
     /// Fewer lines follow an import than it takes.
     ShortImport,
+    /// It has more than 1,000,000 statements.
+    TooManyStatements,
 }
 
 /// The first fault of a script, and the byte at which it is reported, from the script's first byte.

@@ -1,18 +1,20 @@
 -- Bytes always are a script or have a fault.
-use Rattle.std.proofs.Common.{◌≡◌, ◌⊎◌, inl, inr, ℕ, zero, suc, ◌+◌, ◌-◌, ◌<◌, ◌≤◌, Bool, true, false, not, ◌&&◌, cond, eqb, List, [], ◌∷◌, ◌++◌, length, Some, IsSome, codes, refl, sym, ◌∙◌, ap, subst, arith, append_assoc, length-append}
+use Rattle.std.proofs.Common.{◌≡◌, ◌⊎◌, inl, inr, ℕ, zero, suc, ◌+◌, ◌-◌, ◌<◌, ◌≤◌, Bool, true, false, not, ◌&&◌, cond, eqb, List, [], ◌∷◌, ◌++◌, length, Some, IsSome, IsUtf8, codes, refl, sym, ◌∙◌, ap, subst, arith, append_assoc}
 use Rattle.std.specs.List.{list_all}
+use Rattle.std.specs.Str.{IsValidUpTo}
 use Rattle.std.proofs.lemmas.List.{append-nil}
 use Rattle.std.proofs.lemmas.Bool.{cases_lt, eqb-true}
-use Rattle.hv_model.specs.Script.{most_bytes, is_blank, begins_unblank, quoted_behind, line_list, ends_line, data_behind, lines_wanted, IsText, TakesLines, Statements, IsScript, IsFault}
-use Rattle.hv_model.specs.Built.{tree_of}
+use Rattle.hv_model.specs.Parsed.{lines_wanted}
+use Rattle.hv_model.specs.Script.{most_bytes, most_lines, most_statements, is_blank, begins_unblank, quoted_behind, line_list, ends_line, data_behind, TakesLines, Statements, ReadsTo, IsScript, IsFault}
 use Rattle.hv_model.specs.declared.script.Statement.{Statement}
 use Rattle.hv_model.specs.declared.script.Script.{Script}
 use Rattle.hv_model.specs.declared.script.FaultName.{FaultName}
-use Rattle.hv_model.specs.declared.script.FaultName.TheVariants.{TooLong, Unended, ShortImport}
-use Rattle.hv_script.specs.Next.{OpensText, LacksLines, HasNext}
+use Rattle.hv_model.specs.declared.script.FaultName.TheVariants.{TooLong, NotUtf8, Unended, LongImport, ShortImport, TooManyStatements}
+use Rattle.hv_script.specs.Next.{OpensText, ClosesText, WantsMany, LacksLines, HasNext}
 use Rattle.hv_script.specs.OneReading.{SomeReading}
+use Rattle.hv_script.proofs.Front.{utf8_or_front}
 use Rattle.hv_script.proofs.LineCount.{open_line, lines_push, closed_lines}
-use Rattle.hv_script.proofs.Behind.{next_shorter, takes_next}
+use Rattle.hv_script.proofs.Behind.{behind_length, next_shorter, takes_next, reads_to, unended, long_import, short_import, one_too_many}
 
 -- the blanks in front, and what is behind them
 record BehindBlanks (bytes : List ℕ) : Type 0 where
@@ -119,29 +121,40 @@ cut_data : (w : ℕ) (behind : List ℕ) → (length (line_list (data_behind beh
 cut_data zero behind = inr (record { lines = []; after = behind; taken = record { none = λ _. (refl, refl); some = λ h. absurd (omega arith); count = refl; whole = inr (inr refl) } })
 cut_data (suc w) behind = data_of w behind (cut_lines (suc w) (omega arith) (data_behind behind) [] (omega arith))
 
--- what stands next
+-- what stands next: blanks alone or a statement at fault, or a statement that is taken
 abbrev Stops : List ℕ → Type 0
-Stops bytes = (list_all is_blank bytes ≡ true) ⊎ ((rest : List ℕ) × OpensText bytes rest) ⊎ ((rest : List ℕ) × LacksLines bytes rest)
+Stops bytes = (list_all is_blank bytes ≡ true) ⊎ ((from : List ℕ) × OpensText bytes from) ⊎ ((from : List ℕ) × WantsMany bytes from) ⊎ ((from : List ℕ) × LacksLines bytes from)
+
+record Taken (bytes : List ℕ) : Type 0 where
+  from : List ℕ
+  text : List ℕ
+  lines : List ℕ
+  after : List ℕ
+  next : HasNext bytes from text lines after
 
 abbrev Next : List ℕ → Type 0
-Next bytes = (Stops bytes) ⊎ ((text : List ℕ) × (lines : List ℕ) × (after : List ℕ) × HasNext bytes text lines after)
+Next bytes = (Stops bytes) ⊎ (Taken bytes)
 
 text_begins : (text behind : List ℕ) → begins_unblank (text ++ 59 ∷ behind) ≡ true → begins_unblank text ≡ true
 text_begins [] behind h = cc
 text_begins (b ∷ bs) behind h = h
 
-next_data : (bytes : List ℕ) (s : BehindBlanks bytes) (t : BehindText false s.rest) → begins_unblank s.rest ≡ true
-    → (length (line_list (data_behind t.behind)) < lines_wanted (tree_of t.text)) ⊎ BehindData (lines_wanted (tree_of t.text)) t.behind → Next bytes
-next_data bytes s t b (inl few) =
-    let text : IsText t.text = record { begins = text_begins t.text t.behind (subst (λ z. begins_unblank z ≡ true) t.is b); closed = t.closed } in
-    inl (inr (inr (s.rest, record { blanks = s.blanks; text = t.text; behind = t.behind; blank = s.blank; text_is = text; is = s.is; rest_is = t.is; few = few })))
-next_data bytes s t b (inr d) =
-    let text : IsText t.text = record { begins = text_begins t.text t.behind (subst (λ z. begins_unblank z ≡ true) t.is b); closed = t.closed } in
-    inr (t.text, d.lines, d.after, record { blanks = s.blanks; behind = t.behind; blank = s.blank; text_is = text; is = s.is ∙ ap (λ z. s.blanks ++ z) t.is; data_lines = d.taken })
+next_data : (bytes from text behind : List ℕ) → ClosesText bytes from text behind → lines_wanted text ≤ most_lines
+    → (length (line_list (data_behind behind)) < lines_wanted text) ⊎ BehindData (lines_wanted text) behind → Next bytes
+next_data bytes from text behind c allowed (inl few) = inl (inr (inr (inr (from, record { text = text; behind = behind; closes = c; allowed = allowed; few = few }))))
+next_data bytes from text behind c allowed (inr d) =
+    inr (record { from = from; text = text; lines = d.lines; after = d.after; next = record { behind = behind; closes = c; allowed = allowed; data_lines = d.taken } })
+
+next_wanted : (bytes from text behind : List ℕ) → ClosesText bytes from text behind → (most_lines < lines_wanted text) ⊎ (lines_wanted text ≤ most_lines) → Next bytes
+next_wanted bytes from text behind c (inl many) = inl (inr (inr (inl (from, record { text = text; behind = behind; closes = c; many = many }))))
+next_wanted bytes from text behind c (inr allowed) = next_data bytes from text behind c allowed (cut_data (lines_wanted text) behind)
 
 next_text : (bytes : List ℕ) (s : BehindBlanks bytes) → begins_unblank s.rest ≡ true → Cut false s.rest → Next bytes
 next_text bytes s b (inl h) = inl (inr (inl (s.rest, record { blanks = s.blanks; blank = s.blank; begins = b; unended = h; is = s.is })))
-next_text bytes s b (inr t) = next_data bytes s t b (cut_data (lines_wanted (tree_of t.text)) t.behind)
+next_text bytes s b (inr t) =
+    let begins : begins_unblank t.text ≡ true = text_begins t.text t.behind (subst (λ z. begins_unblank z ≡ true) t.is b) in
+    next_wanted bytes s.rest t.text t.behind (record { blanks = s.blanks; blank = s.blank; text_is = record { begins = begins; closed = t.closed }; is = s.is; from_is = t.is })
+    (cases_lt most_lines (lines_wanted t.text))
 
 next_blanks : (bytes : List ℕ) (s : BehindBlanks bytes) → (s.rest ≡ []) ⊎ (begins_unblank s.rest ≡ true) → Next bytes
 next_blanks bytes s (inl none) =
@@ -152,102 +165,94 @@ next_blanks bytes s (inr b) = next_text bytes s b (cut_text false s.rest)
 what_next : (bytes : List ℕ) → Next bytes
 what_next bytes = let s = behind_blanks bytes in next_blanks bytes s s.stops
 
--- the statements up to what ends them
-record Ends (bytes : List ℕ) (k : ℕ) : Type 0 where
+-- the statements up to what ends them, or so many
+record Ends (most : ℕ) (bytes : List ℕ) (k : ℕ) : Type 0 where
   statements : List Statement
   rest : List ℕ
   read : Statements bytes k statements rest
-  stops : Stops rest
+  count : length statements ≤ most
+  stops : (Stops rest) ⊎ ((length statements ≡ most) × Taken rest)
   shorter : length rest ≤ length bytes
 
-ends_next : (n : ℕ) (bytes : List ℕ) (k : ℕ) → length bytes ≤ suc n → ((after : List ℕ) → length after ≤ n → Ends after (k + 1)) → Next bytes → Ends bytes k
-ends_next n bytes k h more (inl stops) = record { statements = []; rest = bytes; read = refl; stops = stops; shorter = omega arith }
-ends_next n bytes k h more (inr (text, lines, after, has)) =
-    let x : Statement = record { session = codes "main"; number = k; text = text; lines = lines } in
-    let less : length after < length bytes = next_shorter bytes text lines after has in
-    let e = more after (omega arith) in
-    let within : length e.rest ≤ length after = e.shorter in
+ends_now : (most : ℕ) (bytes : List ℕ) (k : ℕ) → (Stops bytes) ⊎ ((0 ≡ most) × Taken bytes) → Ends most bytes k
+ends_now most bytes k stops = record { statements = []; rest = bytes; read = refl; count = omega arith; stops = stops; shorter = omega arith }
+
+ends_none : (bytes : List ℕ) (k : ℕ) → Next bytes → Ends 0 bytes k
+ends_none bytes k (inl stops) = ends_now 0 bytes k (inl stops)
+ends_none bytes k (inr t) = ends_now 0 bytes k (inr (refl, t))
+
+one_fuller : (most count : ℕ) (rest : List ℕ) → (Stops rest) ⊎ ((count ≡ most) × Taken rest) → (Stops rest) ⊎ ((suc count ≡ suc most) × Taken rest)
+one_fuller most count rest (inl stops) = inl stops
+one_fuller most count rest (inr (full, t)) = inr (ap suc full, t)
+
+ends_next : (most : ℕ) (bytes : List ℕ) (k : ℕ) → ((after : List ℕ) → Ends most after (k + 1)) → Next bytes → Ends (suc most) bytes k
+ends_next most bytes k more (inl stops) = ends_now (suc most) bytes k (inl stops)
+ends_next most bytes k more (inr t) =
+    let x : Statement = record { session = codes "main"; number = k; text = t.text; lines = t.lines } in
+    let less : length t.after < length bytes = next_shorter bytes t.from t.text t.lines t.after t.next in
+    let e = more t.after in
+    let within : length e.rest ≤ length t.after = e.shorter in
+    let count : length e.statements ≤ most = e.count in
     record {
       statements = x ∷ e.statements;
       rest = e.rest;
-      read = (refl, refl, (after, takes_next bytes text lines after x has refl refl, e.read));
-      stops = e.stops;
+      read = (refl, refl, (t.after, takes_next bytes t.from t.text t.lines t.after x t.next refl refl, e.read));
+      count = omega arith;
+      stops = one_fuller most (length e.statements) e.rest e.stops;
       shorter = omega arith;
     }
 
-ends_none : (bytes : List ℕ) (k : ℕ) → length bytes ≤ 0 → Ends bytes k
-ends_none [] k h = record { statements = []; rest = []; read = refl; stops = inl refl; shorter = omega arith }
-ends_none (b ∷ bs) k h = absurd (omega arith)
-
-ends : (n : ℕ) (bytes : List ℕ) (k : ℕ) → length bytes ≤ n → Ends bytes k
-ends zero bytes k h = ends_none bytes k h
-ends (suc n) bytes k h = ends_next n bytes k h (λ after less. ends n after (k + 1) less) (what_next bytes)
+ends : (most : ℕ) (bytes : List ℕ) (k : ℕ) → Ends most bytes k
+ends zero bytes k = ends_none bytes k (what_next bytes)
+ends (suc most) bytes k = ends_next most bytes k (λ after. ends most after (k + 1)) (what_next bytes)
 
 abbrev Reads : List ℕ → Type 0
 Reads bytes = ((s : Script) × IsScript bytes s) ⊎ ((name : FaultName) × (byte : ℕ) × IsFault bytes name byte)
 
-behind_length : (bytes blanks rest : List ℕ) → bytes ≡ blanks ++ rest → length rest ≤ length bytes
-behind_length bytes blanks rest e = let n : length bytes ≡ length blanks + length rest = ap length e ∙ length-append blanks rest in omega arith
+-- the place of what stands behind blanks
+place_at : (bytes rest blanks from : List ℕ) → length rest ≤ length bytes → rest ≡ blanks ++ from → (length bytes - length from) + length from ≡ length bytes
+place_at bytes rest blanks from shorter is = omega (arith, behind_length rest blanks from is)
 
-reads_of : (bytes : List ℕ) → length bytes ≤ most_bytes → (e : Ends bytes 1) → Stops e.rest → Reads bytes
-reads_of bytes short e (inl blank) = inl (
+reads_of : (bytes : List ℕ) → length bytes ≤ most_bytes → IsUtf8 bytes → (e : Ends most_statements bytes 1) → ReadsTo bytes e.rest → Stops e.rest → Reads bytes
+reads_of bytes short utf8 e front (inl blank) = inl (
   record { sessions = codes "main" ∷ []; phases = e.statements ∷ [] },
   record {
     short = short;
+    utf8 = utf8;
     statements = e.statements;
     rest = e.rest;
     read = e.read;
+    count = e.count;
     blank = blank;
     sessions = refl;
     phases = refl;
   },
 )
-reads_of bytes short e (inr (inl (text, o))) =
-    let n : length text ≤ length e.rest = behind_length e.rest o.blanks text o.is in
-    let m : length e.rest ≤ length bytes = e.shorter in
+reads_of bytes short utf8 e front (inr (inl (from, o))) =
+    inr (Unended, length bytes - length from, unended bytes e.rest from _ front o (place_at bytes e.rest o.blanks from e.shorter o.is))
+reads_of bytes short utf8 e front (inr (inr (inl (from, w)))) =
+    inr (LongImport, length bytes - length from, long_import bytes e.rest from _ front w (place_at bytes e.rest w.closes.blanks from e.shorter w.closes.is))
+reads_of bytes short utf8 e front (inr (inr (inr (from, l)))) =
+    inr (ShortImport, length bytes - length from, short_import bytes e.rest from _ front l (place_at bytes e.rest l.closes.blanks from e.shorter l.closes.is))
+
+reads_full : (bytes : List ℕ) → length bytes ≤ most_bytes → IsUtf8 bytes → (e : Ends most_statements bytes 1) → (Stops e.rest) ⊎ ((length e.statements ≡ most_statements) × Taken e.rest) → Reads bytes
+reads_full bytes short utf8 e (inl stops) = reads_of bytes short utf8 e (reads_to bytes e.rest e.statements short utf8 e.read e.count) stops
+reads_full bytes short utf8 e (inr (full, t)) =
+    let c = t.next.closes in
     inr (
-      Unended,
-      length bytes - length text,
-      record {
-        short = short;
-        statements = e.statements;
-        rest = e.rest;
-        read = e.read;
-        blanks = o.blanks;
-        text = text;
-        blank = o.blank;
-        begins = o.begins;
-        unended = o.unended;
-        is = o.is;
-        at = omega arith;
-      },
+      TooManyStatements,
+      length bytes - length t.from,
+      one_too_many bytes e.rest t.from t.text t.lines t.after _ (reads_to bytes e.rest e.statements short utf8 e.read e.count) full t.next
+          (place_at bytes e.rest c.blanks t.from e.shorter c.is),
     )
-reads_of bytes short e (inr (inr (rest, l))) =
-    let is : e.rest ≡ l.blanks ++ (l.text ++ 59 ∷ l.behind) = l.is ∙ ap (λ z. l.blanks ++ z) l.rest_is in
-    let n : length (l.text ++ 59 ∷ l.behind) ≤ length e.rest = behind_length e.rest l.blanks (l.text ++ 59 ∷ l.behind) is in
-    let m : length e.rest ≤ length bytes = e.shorter in
-    inr (
-      ShortImport,
-      length bytes - length (l.text ++ 59 ∷ l.behind),
-      record {
-        short = short;
-        statements = e.statements;
-        rest = e.rest;
-        read = e.read;
-        blanks = l.blanks;
-        text = l.text;
-        behind = l.behind;
-        blank = l.blank;
-        text_is = l.text_is;
-        is = is;
-        few = l.few;
-        at = omega arith;
-      },
-    )
+
+reads_utf8 : (bytes : List ℕ) → length bytes ≤ most_bytes → (IsUtf8 bytes) ⊎ ((¬ (IsUtf8 bytes)) × ((n : ℕ) × IsValidUpTo bytes n)) → Reads bytes
+reads_utf8 bytes short (inl utf8) = let e = ends most_statements bytes 1 in reads_full bytes short utf8 e e.stops
+reads_utf8 bytes short (inr (none, (n, longest))) = inr (NotUtf8, n, record { short = short; none = none; longest = longest })
 
 reads_long : (bytes : List ℕ) → (most_bytes < length bytes) ⊎ (length bytes ≤ most_bytes) → Reads bytes
 reads_long bytes (inl long) = inr (TooLong, most_bytes, (long, refl))
-reads_long bytes (inr short) = let e = ends (length bytes) bytes 1 (omega arith) in reads_of bytes short e e.stops
+reads_long bytes (inr short) = reads_utf8 bytes short (utf8_or_front bytes)
 
 pub some_reading : SomeReading
 some_reading bytes = reads_long bytes (cases_lt most_bytes (length bytes))

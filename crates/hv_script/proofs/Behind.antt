@@ -1,13 +1,14 @@
 -- One more statement, and faults behind statements.
-use Rattle.std.proofs.Common.{◌≡◌, ℕ, zero, suc, ◌+◌, ◌<◌, ◌≤◌, true, false, ◌||◌, cond, eqb, List, [], ◌∷◌, ◌++◌, length, Option, Some, None, codes, refl, ◌∙◌, ap, arith, length-append}
-use Rattle.hv_model.specs.Script.{most_bytes, Statements, Takes, TakesLines, data_behind, data_from, behind_gap, behind_return, lines_wanted}
-use Rattle.hv_model.specs.Built.{tree_of}
+use Rattle.std.proofs.Common.{◌≡◌, ℕ, zero, suc, ◌+◌, ◌<◌, ◌≤◌, true, false, ◌||◌, cond, eqb, List, [], ◌∷◌, ◌++◌, length, Option, Some, None, IsUtf8, codes, refl, ◌∙◌, ap, arith, length-append}
+use Rattle.hv_model.specs.Parsed.{lines_wanted}
+use Rattle.hv_model.specs.Script.{most_bytes, most_statements, Statements, Takes, TakesLines, ReadsTo, Follows, IsUnended, IsLongImport, IsShortImport, IsOneTooMany, IsFault, line_list, data_behind, data_from, behind_gap, behind_return}
 use Rattle.hv_model.specs.declared.script.Statement.{Statement}
-use Rattle.hv_model.specs.declared.script.FaultName.TheVariants.{ShortImport}
+use Rattle.hv_model.specs.declared.script.FaultName.{FaultName}
 use Rattle.hv_script.specs.declared.fault.BytesFault.{BytesFault}
 use Rattle.hv_script.specs.declared.fault.BytesFault.TheVariants.{Found, Memory}
 use Rattle.hv_script.specs.Fault.{IsFaultOf, TellsAt}
-use Rattle.hv_script.specs.Next.{LacksLines, HasNext}
+use Rattle.hv_script.specs.Next.{OpensText, ClosesText, WantsMany, LacksLines, HasNext}
+use Rattle.hv_script.proofs.Parts.{lines_grow}
 
 -- what is behind the rest of a line is no longer
 length_return : (bytes data_bytes : List ℕ) → behind_return bytes ≡ Some data_bytes → length data_bytes ≤ length bytes
@@ -46,22 +47,36 @@ length_after (suc w) behind lines after t =
     let n : length (data_behind behind) ≡ length lines + length after = ap length (t.some (omega arith)) ∙ length-append lines after in
     omega (arith, length_data behind)
 
+-- what stands behind blanks is no longer
+pub behind_length : (bytes blanks from : List ℕ) → bytes ≡ blanks ++ from → length from ≤ length bytes
+behind_length bytes blanks from e = let n : length bytes ≡ length blanks + length from = ap length e ∙ length-append blanks from in omega arith
+
+-- a text and what is behind its `;`
+pub closes_length : (bytes from text behind : List ℕ) → ClosesText bytes from text behind → length text + (1 + length behind) ≤ length bytes
+closes_length bytes from text behind c =
+    let n : length from ≡ length text + (1 + length behind) = ap length c.from_is ∙ length-append text (59 ∷ behind) ∙ omega arith in
+    omega (arith, behind_length bytes c.blanks from c.is)
+
 -- each statement takes a byte
-pub next_shorter : (bytes text lines after : List ℕ) → HasNext bytes text lines after → length after < length bytes
-next_shorter bytes text lines after h =
-    let n : length bytes ≡ length h.blanks + (length text + (1 + length h.behind)) = ap length h.is ∙ length-append h.blanks _ ∙ ap (λ k. length h.blanks + k) (length-append text _) ∙ omega arith in
-    omega (arith, length_after (lines_wanted (tree_of text)) h.behind lines after h.data_lines)
+pub next_shorter : (bytes from text lines after : List ℕ) → HasNext bytes from text lines after → length after < length bytes
+next_shorter bytes from text lines after h =
+    omega (arith, closes_length bytes from text h.behind h.closes, length_after (lines_wanted text) h.behind lines after h.data_lines)
 
 -- a statement with this text and these lines is taken
-pub takes_next : (bytes text lines after : List ℕ) (x : Statement) → HasNext bytes text lines after → x.text ≡ text → x.lines ≡ lines → Takes bytes x after
-takes_next bytes text lines after x h t l = record {
-  blanks = h.blanks;
+pub takes_next : (bytes from text lines after : List ℕ) (x : Statement) → HasNext bytes from text lines after → x.text ≡ text → x.lines ≡ lines → Takes bytes x after
+takes_next bytes from text lines after x h t l = record {
+  blanks = h.closes.blanks;
   behind = h.behind;
-  blank = h.blank;
-  text = rw t h.text_is;
-  is = rw t h.is;
+  blank = h.closes.blank;
+  text = rw t h.closes.text_is;
+  is = rw t (h.closes.is ∙ ap (λ z. h.closes.blanks ++ z) h.closes.from_is);
+  few = rw t h.allowed;
   data_lines = rw (t, l) h.data_lines;
 }
+
+-- and one that is taken stands next
+pub closes_of : (bytes after : List ℕ) (x : Statement) (t : Takes bytes x after) → ClosesText bytes (x.text ++ 59 ∷ t.behind) x.text t.behind
+closes_of bytes after x t = record { blanks = t.blanks; blank = t.blank; text_is = t.text; is = t.is; from_is = refl }
 
 -- one more statement
 pub statements_push : (bytes : List ℕ) (k : ℕ) (xs : List Statement) (x : Statement) (rest after : List ℕ) → Statements bytes k xs rest → Takes rest x after
@@ -70,21 +85,72 @@ statements_push bytes k [] x rest after s t m n = (m, n ∙ omega arith, (after,
 statements_push bytes k (y ∷ ys) x rest after s t m n =
     (s.0, s.1, (s.2.0, s.2.1, statements_push s.2.0 (k + 1) ys x rest after s.2.2 t m (n ∙ omega arith)))
 
--- an import that wants more lines than follow is the fault
-pub short_import : (bytes rest short : List ℕ) (xs : List Statement) (fault : BytesFault) → length bytes ≤ most_bytes → Statements bytes 1 xs rest
-    → LacksLines rest short → TellsAt ShortImport bytes short fault → IsFaultOf bytes fault
-short_import bytes rest short xs (Found fault) few s l t = rw t.0 (record {
-  short = few;
-  statements = xs;
+-- what stands behind statements without a fault, as a fault
+abbrev pub reads_to : (bytes rest : List ℕ) (xs : List Statement) → length bytes ≤ most_bytes → IsUtf8 bytes → Statements bytes 1 xs rest → length xs ≤ most_statements → ReadsTo bytes rest
+reads_to bytes rest xs short utf8 read count = record { short = short; utf8 = utf8; statements = xs; read = read; count = count }
+
+abbrev follows_of : (bytes rest from text behind : List ℕ) (byte : ℕ) → ReadsTo bytes rest → ClosesText rest from text behind → byte + length from ≡ length bytes → Follows bytes byte text behind
+follows_of bytes rest from text behind byte front c at = record {
   rest = rest;
-  read = s;
-  blanks = l.blanks;
+  front = front;
+  blanks = c.blanks;
+  blank = c.blank;
+  text_is = c.text_is;
+  is = c.is ∙ ap (λ z. c.blanks ++ z) c.from_is;
+  at = rw c.from_is at at;
+}
+
+pub unended : (bytes rest from : List ℕ) (byte : ℕ) → ReadsTo bytes rest → OpensText rest from → byte + length from ≡ length bytes → IsUnended bytes byte
+unended bytes rest from byte front o at = record {
+  rest = rest;
+  front = front;
+  blanks = o.blanks;
+  text = from;
+  blank = o.blank;
+  begins = o.begins;
+  unended = o.unended;
+  is = o.is;
+  at = at;
+}
+
+pub long_import : (bytes rest from : List ℕ) (byte : ℕ) → ReadsTo bytes rest → WantsMany rest from → byte + length from ≡ length bytes → IsLongImport bytes byte
+long_import bytes rest from byte front w at = record {
+  text = w.text;
+  behind = w.behind;
+  follows = follows_of bytes rest from w.text w.behind byte front w.closes at;
+  many = w.many;
+}
+
+pub short_import : (bytes rest from : List ℕ) (byte : ℕ) → ReadsTo bytes rest → LacksLines rest from → byte + length from ≡ length bytes → IsShortImport bytes byte
+short_import bytes rest from byte front l at = record {
   text = l.text;
   behind = l.behind;
-  blank = l.blank;
-  text_is = l.text_is;
-  is = l.is ∙ ap (λ r. l.blanks ++ r) l.rest_is;
+  follows = follows_of bytes rest from l.text l.behind byte front l.closes at;
+  allowed = l.allowed;
   few = l.few;
-  at = rw l.rest_is at t.1;
-})
-short_import bytes rest short xs Memory few s l t = absurd t
+}
+
+-- lines that are taken are there
+pub has_enough : (wanted : ℕ) (behind lines after : List ℕ) → TakesLines wanted behind lines after → wanted ≤ length (line_list (data_behind behind))
+has_enough zero behind lines after t = omega arith
+has_enough (suc w) behind lines after t =
+    let n : length (line_list (data_behind behind)) ≡ length (line_list (lines ++ after)) = ap (λ z. length (line_list z)) (t.some (omega arith)) in
+    let count : length (line_list lines) ≡ suc w = t.count in
+    omega (arith, lines_grow lines after)
+
+pub one_too_many : (bytes rest from text lines after : List ℕ) (byte : ℕ) (front : ReadsTo bytes rest) → length front.statements ≡ most_statements
+    → HasNext rest from text lines after → byte + length from ≡ length bytes → IsOneTooMany bytes byte
+one_too_many bytes rest from text lines after byte front full h at = record {
+  text = text;
+  behind = h.behind;
+  follows = follows_of bytes rest from text h.behind byte front h.closes at;
+  full = full;
+  allowed = h.allowed;
+  enough = has_enough (lines_wanted text) h.behind lines after h.data_lines;
+}
+
+-- a fault that is told at a statement's first byte
+pub told_at : (name : FaultName) (bytes from : List ℕ) (fault : BytesFault) → TellsAt name bytes from fault
+    → ((byte : ℕ) → byte + length from ≡ length bytes → IsFault bytes name byte) → IsFaultOf bytes fault
+told_at name bytes from (Found fault) t is = rw t.0 (is fault.byte t.1)
+told_at name bytes from Memory t is = absurd t

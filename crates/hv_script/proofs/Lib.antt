@@ -1,5 +1,6 @@
 mod Always
 mod Behind
+mod Front
 mod LineCount
 pub mod Once
 mod Parts

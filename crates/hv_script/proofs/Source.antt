@@ -1,25 +1,22 @@
 -- Reading a source to its end, and what is known of a script that was read.
-use Rattle.std.proofs.Common.{◌≡◌, ℕ, zero, suc, ◌+◌, ◌<◌, ◌≤◌, List, [], ◌∷◌, ◌++◌, length, take, drop, Option, Some, None, IfSome, Result, Ok, Err, IfErr, codes, refl, sym, ◌∙◌, ap, subst, arith, append_assoc, length-append, Bool, true, false, cond, leb-true}
-use Rattle.std.specs.Prelude.{nat_le}
+use Rattle.std.proofs.Common.{◌≡◌, ℕ, zero, suc, ◌+◌, ◌<◌, ◌≤◌, List, [], ◌∷◌, ◌++◌, length, take, drop, Option, Some, None, IfSome, Result, Ok, Err, IfErr, codes, refl, sym, ◌∙◌, ap, subst, arith, append_assoc, length-append}
 use Rattle.std.specs.List.{slice_get}
 use Rattle.std.specs.Result.{IsErrAnd}
 use Rattle.std.proofs.lemmas.List.{append-nil, take-append-drop}
 use Rattle.hv_io.specs.Bytes.{Consumes, Given, Gives}
-use Rattle.hv_model.specs.Script.{most_bytes, Statements, Takes, line_list, IsScript, IsFault, IsUnended, IsShortImport, lines_wanted}
-use Rattle.hv_model.specs.Built.{tree_of}
-use Rattle.hv_model.specs.declared.built.Built.{Built}
-use Rattle.hv_model.specs.declared.built.Built.TheVariants.{Create, Import, SelectAll}
+use Rattle.hv_model.specs.Parsed.{lines_wanted}
+use Rattle.hv_model.specs.Script.{most_bytes, most_lines, Statements, Takes, line_list, IsScript, IsFault, IsNotUtf8, IsUnended, IsLongImport, IsShortImport, IsOneTooMany}
 use Rattle.hv_model.specs.declared.script.Statement.{Statement}
 use Rattle.hv_model.specs.declared.script.Script.{Script}
 use Rattle.hv_model.specs.declared.script.FaultName.{FaultName}
-use Rattle.hv_model.specs.declared.script.FaultName.TheVariants.{TooLong, Unended, ShortImport}
+use Rattle.hv_model.specs.declared.script.FaultName.TheVariants.{TooLong, NotUtf8, Unended, LongImport, ShortImport, TooManyStatements}
 use Rattle.hv_script.specs.declared.fault.BytesFault.{BytesFault}
 use Rattle.hv_script.specs.declared.fault.BytesFault.TheVariants.{Found, Memory}
 use Rattle.hv_script.specs.declared.fault.ReadScriptFault.{ReadScriptFault}
 use Rattle.hv_script.specs.Fault.{IsFaultOf, IfFound, as_read}
 use Rattle.hv_script.specs.Reading.{IsRead}
 use Rattle.hv_script.specs.Script.{HasOneSession}
-use Rattle.hv_script.proofs.Behind.{length_after}
+use Rattle.hv_script.proofs.Behind.{length_after, closes_length, closes_of}
 
 -- nothing was read yet
 pub read_none : (before : Option (List ℕ)) → Consumes before before []
@@ -66,8 +63,11 @@ fault_all bytes all TooLong byte r f =
     let n : length bytes ≡ length all + length r.rest = ap length r.whole ∙ length-append all r.rest in
     let long : most_bytes < length all = f.0 in
     (omega arith, f.1)
-fault_all bytes all Unended byte r f = subst (λ xs. IsUnended xs byte) (all_read bytes all r f.short) f
-fault_all bytes all ShortImport byte r f = subst (λ xs. IsShortImport xs byte) (all_read bytes all r f.short) f
+fault_all bytes all NotUtf8 byte r f = subst (λ xs. IsNotUtf8 xs byte) (all_read bytes all r f.short) f
+fault_all bytes all Unended byte r f = subst (λ xs. IsUnended xs byte) (all_read bytes all r f.front.short) f
+fault_all bytes all LongImport byte r f = subst (λ xs. IsLongImport xs byte) (all_read bytes all r f.follows.front.short) f
+fault_all bytes all ShortImport byte r f = subst (λ xs. IsShortImport xs byte) (all_read bytes all r f.follows.front.short) f
+fault_all bytes all TooManyStatements byte r f = subst (λ xs. IsOneTooMany xs byte) (all_read bytes all r f.follows.front.short) f
 
 if_fault : (before : Option (List ℕ)) (all : List ℕ) (name : FaultName) (byte : ℕ) → IfSome before (λ bytes. IsRead bytes all) → IsFault all name byte → IfSome before (λ bytes. IsFault bytes name byte)
 if_fault None all name byte r f = tt
@@ -78,16 +78,6 @@ pub fault_read : (before : Option (List ℕ)) (all : List ℕ) (fault : BytesFau
 fault_read before all (Found found) r f = if_fault before all found.name found.byte r f
 fault_read before all Memory r f = tt
 
--- each statement takes a byte
-takes_one : (bytes after : List ℕ) (x : Statement) → Takes bytes x after → length after + 1 ≤ length bytes
-takes_one bytes after x t =
-    let n : length bytes ≡ length t.blanks + (length x.text + (1 + length t.behind)) = ap length t.is ∙ length-append t.blanks _ ∙ ap (λ k. length t.blanks + k) (length-append x.text _) ∙ omega arith in
-    omega (arith, length_after (lines_wanted (tree_of x.text)) t.behind x.lines after t.data_lines)
-
-statements_short : (bytes : List ℕ) (k : ℕ) (xs : List Statement) (rest : List ℕ) → Statements bytes k xs rest → length xs ≤ length bytes
-statements_short bytes k [] rest s = omega arith
-statements_short bytes k (x ∷ xs) rest s = omega (arith, takes_one bytes s.2.0 x s.2.1, statements_short s.2.0 (k + 1) xs rest s.2.2)
-
 -- each statement has its number
 statement_at : (bytes : List ℕ) (k : ℕ) (xs : List Statement) (rest : List ℕ) → Statements bytes k xs rest → (i : ℕ) (x : Statement) → slice_get xs i ≡ Some x → (x.session ≡ codes "main") × (x.number ≡ i + k)
 statement_at bytes k [] rest s i x e = cc
@@ -96,39 +86,41 @@ statement_at bytes k (y ∷ ys) rest s zero x e =
 statement_at bytes k (y ∷ ys) rest s (suc i) x e =
     let q = statement_at s.2.0 (k + 1) ys rest s.2.2 i x e in (q.0, q.1 ∙ omega arith)
 
--- a statement wants at most 1,000,000 lines
-wanted_if : (lines : ℕ) (few : Bool) → nat_le lines 1000000 ≡ few → cond few lines 0 ≤ 1000000
-wanted_if lines true e = leb-true lines 1000000 e
-wanted_if lines false e = omega arith
-
-wanted_few : (tree : Option Built) → lines_wanted tree ≤ 1000000
-wanted_few (Some (Import name lines)) = wanted_if lines (nat_le lines 1000000) refl
-wanted_few (Some (Create name columns)) = omega arith
-wanted_few (Some (SelectAll name)) = omega arith
-wanted_few None = omega arith
-
--- and takes no more
-each_short : (bytes : List ℕ) (k : ℕ) (xs : List Statement) (rest : List ℕ) → Statements bytes k xs rest → (i : ℕ) (x : Statement) → slice_get xs i ≡ Some x → length (line_list x.lines) ≤ 1000000
+-- and no more lines than an import takes
+each_short : (bytes : List ℕ) (k : ℕ) (xs : List Statement) (rest : List ℕ) → Statements bytes k xs rest → (i : ℕ) (x : Statement) → slice_get xs i ≡ Some x → length (line_list x.lines) ≤ most_lines
 each_short bytes k [] rest s i x e = absurd cc
 each_short bytes k (y ∷ ys) rest s zero x e =
     let same : y ≡ x = cc in
-    let taken : length (line_list y.lines) ≡ lines_wanted (tree_of y.text) = s.2.1.data_lines.count in
-    subst (λ z. length (line_list z.lines) ≤ 1000000) same (omega (arith, wanted_few (tree_of y.text)))
+    let taken : length (line_list y.lines) ≡ lines_wanted y.text = s.2.1.data_lines.count in
+    let few : lines_wanted y.text ≤ most_lines = s.2.1.few in
+    subst (λ z. length (line_list z.lines) ≤ most_lines) same (omega arith)
 each_short bytes k (y ∷ ys) rest s (suc i) x e = each_short s.2.0 (k + 1) ys rest s.2.2 i x e
 
+-- and a text no longer than the bytes
+takes_text : (bytes after : List ℕ) (x : Statement) → Takes bytes x after → length x.text + length after ≤ length bytes
+takes_text bytes after x t =
+    omega (arith, closes_length bytes _ x.text t.behind (closes_of bytes after x t), length_after (lines_wanted x.text) t.behind x.lines after t.data_lines)
+
+each_text : (most : ℕ) (bytes : List ℕ) (k : ℕ) (xs : List Statement) (rest : List ℕ) → length bytes ≤ most → Statements bytes k xs rest
+    → (i : ℕ) (x : Statement) → slice_get xs i ≡ Some x → length x.text ≤ most
+each_text most bytes k [] rest h s i x e = absurd cc
+each_text most bytes k (y ∷ ys) rest h s zero x e =
+    let same : y ≡ x = cc in subst (λ z. length z.text ≤ most) same (omega (arith, takes_text bytes s.2.0 y s.2.1))
+each_text most bytes k (y ∷ ys) rest h s (suc i) x e = each_text most s.2.0 (k + 1) ys rest (omega (arith, takes_text bytes s.2.0 y s.2.1)) s.2.2 i x e
+
 pub one_session : (bytes : List ℕ) (s : Script) → IsScript bytes s → HasOneSession s
-one_session bytes s i =
-    let short : length bytes ≤ most_bytes = i.short in record {
-      statements = i.statements;
-      one = record {
-        sessions = i.sessions;
-        phases = i.phases;
-        of_main = λ at x e. (statement_at bytes 1 i.statements i.rest i.read at x e).0;
-        numbers = λ at x e. (statement_at bytes 1 i.statements i.rest i.read at x e).1;
-      };
-      few = omega (arith, statements_short bytes 1 i.statements i.rest i.read);
-      short = each_short bytes 1 i.statements i.rest i.read;
-    }
+one_session bytes s i = record {
+  statements = i.statements;
+  one = record {
+    sessions = i.sessions;
+    phases = i.phases;
+    of_main = λ at x e. (statement_at bytes 1 i.statements i.rest i.read at x e).0;
+    numbers = λ at x e. (statement_at bytes 1 i.statements i.rest i.read at x e).1;
+  };
+  few = i.count;
+  short = each_short bytes 1 i.statements i.rest i.read;
+  texts = each_text most_bytes bytes 1 i.statements i.rest i.short i.read;
+}
 
 -- the fault that is told of what was read
 pub fault_of : (result : Result Script ReadScriptFault) (before : Option (List ℕ)) (all : List ℕ) (fault : BytesFault) → IsErrAnd result (λ e. e ≡ as_read fault)

@@ -4,7 +4,7 @@ ghost use Rattle.std.specs.Option.{option_copied};
 ghost use Rattle.hv_model.specs.Script.{TakesLines, data_behind, behind_gap, behind_return, line_list, ends_line};
 
 /// The next lines that a statement takes, of the bytes behind its `;`, and what is behind them; `None` where fewer lines follow.
-pub fn split_data(behind: &[u8], wanted: u32) -> Option<(&[u8], &[u8])>
+pub fn split_data(behind: &[u8], wanted: u64) -> Option<(&[u8], &[u8])>
     ensures { MatchOption result (length (line_list (data_behind behind.now)) < wanted) (λ parts. TakesLines wanted behind.now parts.0.now parts.1.now) }
 {
     if wanted == 0 {
@@ -56,7 +56,7 @@ fn skip_return(bytes: &[u8]) -> Option<&[u8]>
 }
 
 // How many bytes the next lines take; `None` where fewer lines follow.
-fn lines_len(bytes: &[u8], wanted: u32) -> Option<usize>
+fn lines_len(bytes: &[u8], wanted: u64) -> Option<usize>
     requires { 0 < wanted }
     ensures { MatchOption result (length (line_list bytes.now) < wanted) (λ n. (n ≤ length bytes.now) × (length (line_list (take n bytes.now)) ≡ wanted) × ((ends_line (take n bytes.now) ≡ true) ⊎ (drop n bytes.now ≡ []))) }
 {

@@ -1,6 +1,7 @@
 // The statements of a script.
-ghost use Rattle.std.specs.Prelude.{◌≡◌, ◌+◌, ◌≤◌, [], ◌∷◌, codes, length, IfOk, IfErr};
-ghost use Rattle.hv_model.specs.Script.{IsScript};
+ghost use Rattle.std.specs.Prelude.{◌≡◌, ◌+◌, ◌≤◌, [], ◌∷◌, codes, length, IfOk, IfErr, IsUtf8};
+ghost use Rattle.hv_model.specs.Script.{most_bytes, IsScript};
+ghost use Rattle.hv_script.specs.declared.fault.BytesFault.TheVariants.{Found};
 ghost use Rattle.hv_script.specs.Fault.{IsFaultOf, TellsAt};
 
 use crate::fault::BytesFault;
@@ -12,26 +13,33 @@ use std::alloc::{AllocError, Global};
 /// The most bytes of a script.
 pub const MOST_BYTES: usize = 67_108_864;
 
+/// The most statements of a script.
+pub const MOST_STATEMENTS: usize = 1_000_000;
+
 /// The script that the bytes are. `Err` is their first fault, told at a byte counted from 0, or `Memory` for want of memory at any point.
 pub fn read_statements(alloc: Global, bytes: &[u8]) -> Result<Script, BytesFault>
     ensures script { IfOk result (λ script. IsScript bytes.now script) }
     ensures fault { IfErr result (λ fault. IsFaultOf bytes.now fault) }
 {
-    if bytes.len() > MOST_BYTES {
-        return Err(BytesFault::Found(ScriptFault {
-            name: FaultName::TooLong,
-            byte: MOST_BYTES as u32,
-        }));
-    }
+    test_bytes(bytes)?;
     let mut statements: Phase = Listed::new(alloc);
     let mut number = 1;
     let mut rest = bytes;
     loop {
         match find_next(rest) {
             Next::End => return Ok(one_phase(alloc, statements)?),
-            Next::Unended(text) => return Err(fault_at(FaultName::Unended, bytes, text)),
-            Next::Short(text) => return Err(fault_at(FaultName::ShortImport, bytes, text)),
-            Next::Found { text, lines, after } => {
+            Next::Unended(from) => return Err(fault_at(FaultName::Unended, bytes, from)),
+            Next::Long(from) => return Err(fault_at(FaultName::LongImport, bytes, from)),
+            Next::Short(from) => return Err(fault_at(FaultName::ShortImport, bytes, from)),
+            Next::Found {
+                from,
+                text,
+                lines,
+                after,
+            } => {
+                if statements.len() == MOST_STATEMENTS {
+                    return Err(fault_at(FaultName::TooManyStatements, bytes, from));
+                }
                 statements.push(main_statement(alloc, number, text, lines)?)?;
                 number += 1;
                 rest = after;
@@ -40,16 +48,39 @@ pub fn read_statements(alloc: Global, bytes: &[u8]) -> Result<Script, BytesFault
     }
 }
 
-// A fault at the first byte of the rest.
-fn fault_at(name: FaultName, bytes: &[u8], rest: &[u8]) -> BytesFault
-    requires short { length bytes.now ≤ 67108864 }
-    requires within { length rest.now ≤ length bytes.now }
-    ensures { TellsAt name bytes.now rest.now result }
+// Whether the bytes are few enough, and UTF-8.
+fn test_bytes(bytes: &[u8]) -> Result<(), BytesFault>
+    ensures short { IfOk result (λ _. length bytes.now ≤ most_bytes) }
+    ensures utf8 { IfOk result (λ _. IsUtf8 bytes.now) }
+    ensures fault { IfErr result (λ fault. IsFaultOf bytes.now fault) }
+{
+    if bytes.len() > MOST_BYTES {
+        return Err(told(FaultName::TooLong, MOST_BYTES));
+    }
+    match str::from_utf8(bytes) {
+        Ok(_) => Ok(()),
+        Err(error) => Err(told(FaultName::NotUtf8, error.valid_up_to())),
+    }
+}
+
+// A fault at this byte.
+fn told(name: FaultName, byte: usize) -> BytesFault
+    requires { byte ≤ most_bytes }
+    ensures { result ≡ Found (record { name = name; byte = byte }) }
 {
     BytesFault::Found(ScriptFault {
         name,
-        byte: (bytes.len() - rest.len()) as u32,
+        byte: byte as u32,
     })
+}
+
+// A fault at the first byte of the rest.
+fn fault_at(name: FaultName, bytes: &[u8], rest: &[u8]) -> BytesFault
+    requires short { length bytes.now ≤ most_bytes }
+    requires within { length rest.now ≤ length bytes.now }
+    ensures { TellsAt name bytes.now rest.now result }
+{
+    told(name, bytes.len() - rest.len())
 }
 
 // A statement of the session `main`.

@@ -1,6 +1,7 @@
 // Scripts with what is read of them, sources that give little or fail, and the words.
 use crate::{
-    BytesFault, MOST_BYTES, ReadScriptFault, one_reading, read_script, read_statements, read_words,
+    BytesFault, MOST_BYTES, MOST_STATEMENTS, ReadScriptFault, one_reading, read_script,
+    read_statements, read_words,
 };
 use hv_io::MemSource;
 use hv_model::{FaultName, Options, Script, ScriptFault};
@@ -68,8 +69,8 @@ fn statements_are_read(rt: HostRuntime) -> Result<(), Fail> {
             b"1[IMPORT INTO t LINES 0001|5\n]",
         ),
         (
-            b"IMPORT INTO t LINES 1000001;\n5;",
-            b"1[IMPORT INTO t LINES 1000001|]2[5|]",
+            b"SELECT '\xC3\xA9\xF0\x9F\x98\x80';IMPORT INTO t LINES 1;\n\xE2\x82\xAC\n",
+            b"1[SELECT '\xC3\xA9\xF0\x9F\x98\x80'|]2[IMPORT INTO t LINES 1|\xE2\x82\xAC\n]",
         ),
     ];
     for (text, told) in cases {
@@ -81,11 +82,29 @@ fn statements_are_read(rt: HostRuntime) -> Result<(), Fail> {
     Ok(())
 }
 
+// The fault of a script that is no script.
+fn found(alloc: Global, text: &[u8]) -> Option<ScriptFault> {
+    match read_statements(alloc, text) {
+        Err(BytesFault::Found(found)) => Some(found),
+        _ => None,
+    }
+}
+
 #[test]
 fn faults_are_told(rt: HostRuntime) {
-    let cases: [(&[u8], FaultName, u32); 5] = [
+    let cases: [(&[u8], FaultName, u32); 12] = [
         (b"SELECT * FROM t", FaultName::Unended, 0),
         (b"  ;SELECT 'a;", FaultName::Unended, 3),
+        (
+            b"; IMPORT INTO t LINES 1000001;5\n",
+            FaultName::LongImport,
+            2,
+        ),
+        (
+            b"a;IMPORT INTO t LINES 99999999999999999999;",
+            FaultName::LongImport,
+            2,
+        ),
         (
             b"CREATE TABLE t (a INT);\nIMPORT INTO t LINES 2;\n1",
             FaultName::ShortImport,
@@ -97,11 +116,90 @@ fn faults_are_told(rt: HostRuntime) {
             FaultName::ShortImport,
             0,
         ),
+        (b"SELECT '\xC3\xA9\xFF';", FaultName::NotUtf8, 10),
+        (b"IMPORT INTO t LINES 1;\n\xC3(\n", FaultName::NotUtf8, 23),
+        (b"a;\xED\xA0\x80", FaultName::NotUtf8, 2),
+        (b"a;b\xF4\x90\x80\x80;", FaultName::NotUtf8, 3),
+        (b"SELECT 'a';\xE2\x82", FaultName::NotUtf8, 11),
     ];
     for (text, name, byte) in cases {
-        let told = read_statements(rt.alloc(), text).err();
-        assert_eq!(rt; told, Some(BytesFault::Found(fault(name, byte))));
+        assert_eq!(rt; found(rt.alloc(), text), Some(fault(name, byte)));
     }
+}
+
+#[test]
+fn one_of_two_faults_is_told(rt: HostRuntime) {
+    let cases: [(&[u8], FaultName, u32); 12] = [
+        (b"IMPORT INTO t LINES 1000001", FaultName::Unended, 0),
+        (b"IMPORT INTO t LINES 2", FaultName::Unended, 0),
+        (b"IMPORT INTO t LINES 1000001;", FaultName::LongImport, 0),
+        (b"IMPORT INTO t LINES 1000001;a", FaultName::LongImport, 0),
+        (
+            b"IMPORT INTO t LINES 1000001;IMPORT INTO t LINES 2;",
+            FaultName::LongImport,
+            0,
+        ),
+        (
+            b"IMPORT INTO t LINES 2;IMPORT INTO t LINES 1000001;",
+            FaultName::ShortImport,
+            0,
+        ),
+        (b"IMPORT INTO t LINES 2;\na", FaultName::ShortImport, 0),
+        (b"'IMPORT INTO t LINES 2;", FaultName::Unended, 0),
+        (b"a\xFF", FaultName::NotUtf8, 1),
+        (b"a\xFF;b", FaultName::NotUtf8, 1),
+        (b"IMPORT INTO t LINES 1000001;\xFF", FaultName::NotUtf8, 28),
+        (b"IMPORT INTO t LINES 2;\n1\xFF", FaultName::NotUtf8, 24),
+    ];
+    for (text, name, byte) in cases {
+        assert_eq!(rt; found(rt.alloc(), text), Some(fault(name, byte)));
+    }
+}
+
+// As many statements as a script has, with this behind them.
+fn full(alloc: Global, behind: &[u8]) -> Result<Vec<u8>, AllocError> {
+    let mut script = Vec::with_capacity(alloc, 2 * MOST_STATEMENTS + behind.len())?;
+    for _ in 0..MOST_STATEMENTS {
+        script.extend_from_slice(b"a;")?;
+    }
+    script.extend_from_slice(behind)?;
+    Ok(script)
+}
+
+#[test]
+fn most_statements_are_read(rt: HostRuntime) -> Result<(), Fail> {
+    let script = read_statements(rt.alloc(), full(rt.alloc(), b";\n")?.as_slice())?;
+    for phase in script.phases.as_slice() {
+        assert_eq!(rt; phase.len(), MOST_STATEMENTS);
+    }
+    let cases: [(&[u8], FaultName, u32); 7] = [
+        (b"a;", FaultName::TooManyStatements, 2_000_000),
+        (b" ;a;b", FaultName::TooManyStatements, 2_000_002),
+        (
+            b"a;IMPORT INTO t LINES 1000001;",
+            FaultName::TooManyStatements,
+            2_000_000,
+        ),
+        (b"a", FaultName::Unended, 2_000_000),
+        (
+            b"IMPORT INTO t LINES 1000001;",
+            FaultName::LongImport,
+            2_000_000,
+        ),
+        (b"IMPORT INTO t LINES 1;", FaultName::ShortImport, 2_000_000),
+        (b"a;\xFF", FaultName::NotUtf8, 2_000_002),
+    ];
+    for (behind, name, byte) in cases {
+        let text = full(rt.alloc(), behind)?;
+        assert_eq!(rt; found(rt.alloc(), text.as_slice()), Some(fault(name, byte)));
+    }
+    let mut text = Vec::from_slice(rt.alloc(), b"IMPORT INTO t LINES 1000001;")?;
+    text.extend_from_slice(full(rt.alloc(), b"a;")?.as_slice())?;
+    assert_eq!(rt;
+        found(rt.alloc(), text.as_slice()),
+        Some(fault(FaultName::LongImport, 0))
+    );
+    Ok(())
 }
 
 #[test]
@@ -137,6 +235,17 @@ fn long_scripts_are_refused(rt: HostRuntime) -> Result<(), Fail> {
     assert_eq!(rt;
         told,
         Some(ReadScriptFault::Found(fault(FaultName::TooLong, 67_108_864)))
+    );
+    let mut text = blanks(rt.alloc(), MOST_BYTES - 1)?;
+    text.push(b'\xFF')?;
+    assert_eq!(rt;
+        found(rt.alloc(), text.as_slice()),
+        Some(fault(FaultName::NotUtf8, 67_108_863))
+    );
+    text.push(b'a')?;
+    assert_eq!(rt;
+        found(rt.alloc(), text.as_slice()),
+        Some(fault(FaultName::TooLong, 67_108_864))
     );
     Ok(())
 }

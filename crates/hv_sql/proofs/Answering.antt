@@ -7,7 +7,8 @@ use Rattle.hv_sql.specs.declared.parsing.SqlFault.{SqlFault}
 use Rattle.hv_sql.specs.declared.parsing.SqlFault.TheVariants.{Syntax, Memory}
 use Rattle.hv_model.specs.Fault.{IsStatement, IsFault, place_of}
 use Rattle.hv_model.specs.SqlReading.{tree_at}
-use Rattle.hv_sql.specs.Answer.{Answers, IsTree, IsSyntax, Explains}
+use Rattle.hv_model.specs.Parsed.{placed}
+use Rattle.hv_sql.specs.Answer.{Answers, Reads, IsTree, IsSyntax, Explains}
 use Rattle.hv_sql.proofs.OneReading.{trees_sound, trees_complete, faults_sound, faults_complete, ok_is, err_is, not_both}
 
 pub answer_found : (r : Result Ast SqlFault) (end : ℕ) (lexemes : List Lexeme) → Answers r end (tree_at lexemes) → IfOk r (λ a. IsStatement lexemes a)
@@ -28,3 +29,8 @@ pub answer_fault : (r : Result Ast SqlFault) (end : ℕ) (lexemes : List Lexeme)
 answer_fault (Ok b) end lexemes h = tt
 answer_fault (Err (Syntax byte)) end lexemes h = (h.0, faults_sound lexemes h.0 h.1, h.2)
 answer_fault (Err Memory) end lexemes h = tt
+
+pub answer_read : (r : Result Ast SqlFault) (end : ℕ) (read : Result Ast (List Lexeme)) → Answers r end read → Reads r (placed end read)
+answer_read (Ok a) end read h = ap (placed end) h
+answer_read (Err (Syntax byte)) end read h = ap (placed end) h.1 ∙ ap (λ z. Err z) (sym h.2)
+answer_read (Err Memory) end read h = tt

@@ -132,7 +132,7 @@ of_choice bytes false false false true symbol k w n t m = let parts = and_parts 
 of_choice bytes false false false false true k w n t m = m
 of_choice bytes false false false false false k w n t m = sort_other bytes k w n t m
 
-of_its_sort : (bytes : List ℕ) → IsOf (sort_of bytes) bytes
+pub of_its_sort : (bytes : List ℕ) → IsOf (sort_of bytes) bytes
 of_its_sort bytes =
     let keyword = is_keyword bytes in
     let name = is_run bytes && nat_le (length bytes) 30 in

@@ -43,15 +43,20 @@ token_step text at lt dark within =
     (drop_behind text at (token_length (get_or text at 0 ∷ drop (at + 1) text)) (token_length_some (get_or text at 0 ∷ drop (at + 1) text))) in
     subst P (sym e) first within
 
--- a token behind those so far
-pub token_more : (text : List ℕ) (tokens all more : List Token) (at : ℕ) (t : Token) → at < length text → is_white (get_or text at 0) ≡ false → t ≡ token_at at (drop at text)
-    → t.to ≤ length text → tokens ++ tokens_from at 0 (drop at text) ≡ all → more ≡ tokens ++ t ∷ [] → more ++ tokens_from t.to 0 (drop t.to text) ≡ all
-token_more text tokens all more at t lt dark is within so_far pushed =
+-- where a token stands it is the first, and those behind it follow
+pub token_behind : (text : List ℕ) (at : ℕ) (t : Token) → at < length text → is_white (get_or text at 0) ≡ false → t ≡ token_at at (drop at text) → t.to ≤ length text
+    → tokens_from at 0 (drop at text) ≡ t ∷ tokens_from t.to 0 (drop t.to text)
+token_behind text at t lt dark is within =
     let rest = drop at text in
     let to : t.to ≡ at + token_length rest = ap (λ (x : Token). x.to) is in
     let long : length rest ≡ length text - at = length-drop at text in
     let step = token_step text at lt dark (omega arith) in
+    step ∙ sym (ap (λ (x : Token). x ∷ tokens_from t.to 0 (drop t.to text)) is ∙ ap (λ (k : ℕ). token_at at rest ∷ tokens_from k 0 (drop k text)) to)
+
+-- a token behind those so far
+pub token_more : (text : List ℕ) (tokens all more : List Token) (at : ℕ) (t : Token) → at < length text → is_white (get_or text at 0) ≡ false → t ≡ token_at at (drop at text)
+    → t.to ≤ length text → tokens ++ tokens_from at 0 (drop at text) ≡ all → more ≡ tokens ++ t ∷ [] → more ++ tokens_from t.to 0 (drop t.to text) ≡ all
+token_more text tokens all more at t lt dark is within so_far pushed =
     let behind : List Token = tokens_from t.to 0 (drop t.to text) in
-    let same : t ∷ behind ≡ tokens_from at 0 rest =
-    ap (λ (x : Token). x ∷ behind) is ∙ ap (λ (k : ℕ). token_at at rest ∷ tokens_from k 0 (drop k text)) to ∙ sym step in
+    let same : t ∷ behind ≡ tokens_from at 0 (drop at text) = sym (token_behind text at t lt dark is within) in
     ap (λ (xs : List Token). xs ++ behind) pushed ∙ append_assoc tokens (t ∷ []) behind ∙ ap (λ (xs : List Token). tokens ++ xs) same ∙ so_far

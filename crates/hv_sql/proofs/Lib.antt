@@ -7,9 +7,11 @@ mod Choice
 mod Lists
 mod RuleLaws
 mod OneReading
+pub mod Grouped
 pub mod Loops
 pub mod Answering
 pub mod LexingClasses
+pub mod LexingFirst
 pub mod LexingLaws
 pub mod LexingLengths
 pub mod LexingNumbers

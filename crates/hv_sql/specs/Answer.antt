@@ -28,3 +28,9 @@ abbrev pub Answers : Result Ast SqlFault → ℕ → Result Ast (List Lexeme) �
 Answers (Ok a) end read = read ≡ Ok a
 Answers (Err (Syntax byte)) end read = (at : List Lexeme) × (read ≡ Err at) × (byte ≡ place_of at end)
 Answers (Err Memory) end read = ⊤
+
+-- the text is read so, unless memory runs out
+abbrev pub Reads : Result Ast SqlFault → Result Ast ℕ → Type 0
+Reads (Ok a) p = p ≡ Ok a
+Reads (Err (Syntax byte)) p = p ≡ Err byte
+Reads (Err Memory) p = ⊤

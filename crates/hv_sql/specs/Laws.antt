@@ -1,8 +1,11 @@
 -- The laws of the language: lexemes are at most one statement, or have one fault. This project's own.
-use Rattle.std.specs.Prelude.{◌≡◌, List, [], ◌∷◌, Result, Ok, Err}
+use Rattle.std.specs.Prelude.{◌≡◌, true, List, length, Ok, Err}
 use Rattle.hv_model.specs.declared.lexeme.Lexeme.{Lexeme}
 use Rattle.hv_model.specs.declared.tree.Ast.{Ast}
+use Rattle.hv_model.specs.declared.tree.Ast.TheVariants.{Select}
+use Rattle.hv_model.specs.declared.tree.SelectAst.{SelectAst}
 use Rattle.hv_model.specs.SqlReading.{tree_at}
+use Rattle.hv_model.specs.Bound.{is_grouped}
 use Rattle.hv_model.specs.Fault.{IsStatement, IsFault}
 
 -- lexemes are at most one statement
@@ -32,3 +35,7 @@ OneFault = (lexemes at other : List Lexeme) → IsFault lexemes at → IsFault l
 -- a statement has no fault
 abbrev pub NoFaultToo : Type 0
 NoFaultToo = (lexemes at : List Lexeme) (a : Ast) → IsStatement lexemes a → IsFault lexemes at → ⊥
+
+-- a select that is grouped has one place
+abbrev pub OnePlace : Type 0
+OnePlace = (lexemes : List Lexeme) (x : SelectAst) → tree_at lexemes ≡ Ok (Select x) → is_grouped x ≡ true → length x.places ≡ 1

@@ -7,7 +7,9 @@ ghost use Rattle.hv_model.specs.Token.{is_digit, begins_name, begins_as_name, is
 ghost use Rattle.hv_model.specs.Lexemes.{is_run, closes, is_quoted, is_text, is_symbol, token_length, sort_of, token_at, tokens_of, bytes_of, unquoted, text_value, TokensInOrder, NothingLost, TokensLongest, TokensHold, TextsWritten, ValuesRead};
 
 use crate::words::{keyword_of, symbol_of};
-use hv_model::{MAX_NAME_BYTES, Sort, Token, Tokens, is_number, is_white};
+use hv_model::{
+    MAX_NAME_BYTES, Sort, Token, Tokens, begins_name, is_digit, is_name_byte, is_number, is_white,
+};
 use hv_row::{Bytes, Listed};
 use std::alloc::{AllocError, Global};
 
@@ -31,8 +33,8 @@ pub fn lex(alloc: Global, text: &[u8]) -> Result<Tokens, AllocError>
     Ok(Listed::from_vec(tokens))
 }
 
-// The token that stands at a place.
-fn token_at(text: &[u8], at: usize) -> Token
+/// The token that stands at a place.
+pub fn token_at(text: &[u8], at: usize) -> Token
     requires short { length text.now ≤ 67108864 }
     requires within { at < length text.now }
     ensures token { result ≡ token_at at (drop at text.now) }
@@ -145,24 +147,6 @@ fn run_sort(bytes: &[u8]) -> Sort
     } else {
         Sort::Other
     }
-}
-
-fn is_digit(byte: u8) -> bool
-    ensures { result ≡ is_digit byte }
-{
-    byte.is_ascii_digit()
-}
-
-fn begins_name(byte: u8) -> bool
-    ensures { result ≡ begins_name byte }
-{
-    byte.is_ascii_alphabetic() || byte == b'_'
-}
-
-fn is_name_byte(byte: u8) -> bool
-    ensures { result ≡ is_name_byte byte }
-{
-    begins_name(byte) || is_digit(byte)
 }
 
 fn begins_as_name(bytes: &[u8]) -> bool

@@ -3,6 +3,7 @@
 
 mod column;
 mod condition;
+mod importing;
 mod item;
 mod law;
 mod lexing;
@@ -19,8 +20,10 @@ mod stop;
 mod terminal;
 #[cfg(test)]
 mod tests;
+mod unlexed;
 mod words;
 
+pub use importing::import_lines;
 pub use law::{fault_law, grammar_laws};
 pub use lexing::{lex, lexing_law, number_of, text_of, token_bytes};
 pub use parsing::{SqlFault, parse};

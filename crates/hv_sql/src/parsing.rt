@@ -3,9 +3,10 @@ ghost use Rattle.std.specs.Prelude.{◌≡◌, ◌≤◌, List, length, IfOk, If
 ghost use Rattle.hv_model.specs.SqlReading.{statement_at};
 ghost use Rattle.hv_model.specs.SqlReading.{tree_at};
 ghost use Rattle.hv_model.specs.Lexed as spec;
+ghost use Rattle.hv_model.specs.Parsed.{parsed};
 ghost use Rattle.hv_model.specs.Fault.{IsStatement, IsFault, place_of};
 ghost use Rattle.hv_sql.specs.Code.{Gives};
-ghost use Rattle.hv_sql.specs.Answer.{Answers, IsTree, IsSyntax, Explains};
+ghost use Rattle.hv_sql.specs.Answer.{Answers, Reads, IsTree, IsSyntax, Explains};
 ghost use Rattle.hv_model.specs.declared.lexeme.Lexeme.{Lexeme};
 ghost use Rattle.hv_model.specs.declared.tree.Ast.{Ast};
 
@@ -92,6 +93,7 @@ fn answer(alloc: Global, lexemes: Rest<'_>, end: u32) -> Result<Ast, SqlFault>
 /// The tree of a statement's text; `Syntax` exactly where its tokens are no statement.
 pub fn parse(alloc: Global, text: &[u8]) -> Result<Ast, SqlFault>
     requires { length text.now ≤ 67108864 }
+    ensures read { Reads result (parsed text.now) }
     ensures found { IfOk result (λ a. IsStatement (spec.lexemes text.now) a) }
     ensures only { (a : Ast) → IsStatement (spec.lexemes text.now) a → IsTree result a }
     ensures told { (at : List Lexeme) → IsFault (spec.lexemes text.now) at → IsSyntax result (place_of at (length text.now)) }

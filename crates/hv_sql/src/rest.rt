@@ -83,8 +83,8 @@ impl<'a> Rest<'a> {
     }
 }
 
-// What bytes of this sort are.
-fn look_at<'a>(sort: Sort, bytes: &'a [u8]) -> Seen<'a>
+/// What bytes of this sort are.
+pub fn look_at<'a>(sort: Sort, bytes: &'a [u8]) -> Seen<'a>
     requires { IsOf sort bytes.now }
     ensures { what_seen result ≡ spec.what_of sort bytes.now }
 {

@@ -87,7 +87,7 @@ pub fn keyword_kind(keyword: Keyword) -> u8
 }
 
 /// The number of the kind of what is seen.
-fn kind(what: Seen<'_>) -> u8
+pub fn kind(what: Seen<'_>) -> u8
     ensures { result ≡ spec.kind_of (what_seen what.entry) }
 {
     match what {

@@ -1,13 +1,14 @@
 -- What an import's fields, rows and lines spell, byte by byte.
 use Rattle.std.proofs.Common.{◌≡◌, ℕ, zero, suc, ◌+◌, ◌<◌, ◌≤◌, ◌^◌, Bool, true, false, not, cond, ◌&&◌, eqb, ltb, leb, List, [], ◌∷◌, ◌++◌, length, drop, get_or, Option, Some, None, ℤ, pos, neg_ℤ, refl, sym, ◌∙◌, ap, subst, arith, rules, append_assoc, drop-cons, add-one, leb-true, ltb-true, eqb-true, le-leb, lt-ltb, lit<, is_some, MatchOption, Bor, Result, Ok, Err, SomeIff}
-use Rattle.std.specs.Prelude.{FitsSigned, IsUtf8}
+use Rattle.std.specs.Prelude.{◌↔◌, FitsSigned, IsTrue, IsUtf8}
+use Rattle.std.proofs.lemmas.Bool.{false_from_ne_true}
 use Rattle.std.specs.Int.{w64}
 use Rattle.std.specs.List.{list_all, onto_first}
 use Rattle.std.specs.Option.{option_map, unwrap_or}
 use Rattle.std.specs.Result.{result_ok}
 use Rattle.std.specs.Str.{IsAscii}
 use Rattle.std.specs.Str.Parse.{IsNumeral, digits_value, without_leading_sign, signed_digits_value, starts_with_minus, ParsesSigned}
-use Rattle.std.proofs.lemmas.Str.{IsUtf8-from_ascii}
+use Rattle.std.proofs.lemmas.Str.{IsUtf8-from_ascii, IsUtf8-from_is_utf8, is_utf8-from_IsUtf8}
 use Rattle.std.proofs.lemmas.Str.Parse.{IsNumeralModel, numerals_by_value}
 use Rattle.std.proofs.lemmas.List.{drop_all}
 use Rattle.hv_row.specs.declared.value.Value.{Value}
@@ -15,10 +16,10 @@ use Rattle.hv_row.specs.declared.value.Value.TheVariants.{Int, Text}
 use Rattle.hv_row.specs.declared.value.ColType.{ColType}
 use Rattle.hv_row.specs.declared.value.ColType.TheVariants as kind
 use Rattle.hv_row.specs.declared.schema.Column.{Column}
-use Rattle.hv_row.specs.Value.{FitsType}
+use Rattle.hv_row.specs.Value.{FitsType, IsTextValue}
 use Rattle.hv_row.specs.Row.{RowFits}
 use Rattle.hv_model.specs.Token.{is_digit, is_number}
-use Rattle.hv_model.specs.Import.{is_plain_byte, amount_fits, is_integer, field_value, value_before, values_of, fields_of}
+use Rattle.hv_model.specs.Import.{amount_fits, is_integer, is_text, field_value, value_before, values_of, fields_of}
 use Rattle.hv_model.specs.Script.{line_list}
 
 -- Tests that are both true.
@@ -66,7 +67,7 @@ read_is_integer field n f =
     let ds = without_leading_sign field in
     both (both (le-leb 1 (length ds) n.0) (numerals.from ds n.1)) (amount_from (starts_with_minus field) (digits_value 10 ds) f)
 
--- Bytes below 128 are a text.
+-- A number is a text: its bytes are below 128.
 abbrev small : ℕ → Bool
 small b = ltb b 128
 
@@ -140,51 +141,53 @@ pub value_pushed : (vs : List Value) (v : Value) (more : Option (List Value)) �
 value_pushed vs v None = refl
 value_pushed vs v (Some ws) = ap Some (sym (append_assoc vs (v ∷ []) ws))
 
--- Rows that are read fit their columns: plain bytes are a text.
-small_plain : (bs : List ℕ) → list_all is_plain_byte bs ≡ true → list_all small bs ≡ true
-small_plain [] e = refl
-small_plain (b ∷ bs) e = both (first_of _ _ (first_of _ _ (first_of _ _ e))) (small_plain bs (second_of _ _ e))
+-- A text of a column, as the test of the bytes tells it.
+pub text_value : (field : List ℕ) → is_text field ≡ true → IsTextValue field
+text_value field e = record {
+  short = leb-true (length field) 255 (first_of _ _ e);
+  utf8 = IsUtf8-from_is_utf8 field (second_of _ _ e);
+}
 
-value_fits : (k : ColType) (field : List ℕ) (v : Value) → list_all is_plain_byte field ≡ true → field_value k field ≡ Some v → FitsType k v
-value_fits kind.Int field v plain e =
+text_test : (field : List ℕ) → IsTextValue field → is_text field ≡ true
+text_test field t = both (le-leb (length field) 255 t.short) (is_utf8-from_IsUtf8 field t.utf8)
+
+pub text_told : (field : List ℕ) (told : Bool) → IsTrue told ↔ IsTextValue field → is_text field ≡ told
+text_told field true iff = text_test field (iff.0 refl)
+text_told field false iff = false_from_ne_true (is_text field) (λ is. let h : false ≡ true = iff.1 (text_value field is) in cc)
+
+pub text_spelt : (k : ColType) (field bytes : List ℕ) (told : Bool) → k ≡ kind.Text → IsTrue told ↔ IsTextValue field → told ≡ true → bytes ≡ field
+    → Some (Text bytes) ≡ field_value k field
+text_spelt k field bytes told is iff holds same = rw (is, text_told field told iff, holds, same) refl
+
+pub text_unspelt : (k : ColType) (field : List ℕ) (told : Bool) → k ≡ kind.Text → IsTrue told ↔ IsTextValue field → told ≡ false → None ≡ field_value k field
+text_unspelt k field told is iff absent = rw (is, text_told field told iff, absent) refl
+
+-- Rows that are read fit their columns.
+value_fits : (k : ColType) (field : List ℕ) (v : Value) → field_value k field ≡ Some v → FitsType k v
+value_fits kind.Int field v e =
     elim (is_integer field) as (λ t. is_integer field ≡ t → cond t (Some (Int (signed_digits_value 10 field))) None ≡ Some v → FitsType kind.Int v) [
       | true ↦ λ is h. let same : Int (signed_digits_value 10 field) ≡ v = cc in subst (FitsType kind.Int) same (integer_reads field is).1
       | false ↦ λ _ h. absurd (cc)
     ] refl e
-value_fits kind.Text field v plain e =
-    elim (leb (length field) 255) as (λ t. leb (length field) 255 ≡ t → cond t (Some (Text field)) None ≡ Some v → FitsType kind.Text v) [
-      | true ↦ λ is h. let same : Text field ≡ v = cc in subst (FitsType kind.Text) same (record { short = leb-true (length field) 255 is; utf8 = small_text field (small_plain field plain) })
+value_fits kind.Text field v e =
+    elim (is_text field) as (λ t. is_text field ≡ t → cond t (Some (Text field)) None ≡ Some v → FitsType kind.Text v) [
+      | true ↦ λ is h. let same : Text field ≡ v = cc in subst (FitsType kind.Text) same (text_value field is)
       | false ↦ λ _ h. absurd (cc)
     ] refl e
 
-abbrev pub are_plain : List (List ℕ) → Bool
-are_plain fields = list_all (λ field. list_all is_plain_byte field) fields
-
-pub values_fit : (cs : List Column) (fields : List (List ℕ)) (vs : List Value) → are_plain fields ≡ true → values_of cs fields ≡ Some vs → RowFits cs vs
-values_fit [] [] vs plain e = let same : [] ≡ vs = cc in subst (RowFits []) same tt
-values_fit [] (_ ∷ _) vs plain e = absurd (cc)
-values_fit (_ ∷ _) [] vs plain e = absurd (cc)
-values_fit (c ∷ cs) (field ∷ fields) vs plain e =
+pub values_fit : (cs : List Column) (fields : List (List ℕ)) (vs : List Value) → values_of cs fields ≡ Some vs → RowFits cs vs
+values_fit [] [] vs e = let same : [] ≡ vs = cc in subst (RowFits []) same tt
+values_fit [] (_ ∷ _) vs e = absurd (cc)
+values_fit (_ ∷ _) [] vs e = absurd (cc)
+values_fit (c ∷ cs) (field ∷ fields) vs e =
     elim (field_value c.kind field) as (λ o. field_value c.kind field ≡ o → value_before o (values_of cs fields) ≡ Some vs → RowFits (c ∷ cs) vs) [
       | None ↦ λ _ h. absurd (cc)
       | Some v ↦ λ is. elim (values_of cs fields) as (λ o. values_of cs fields ≡ o → value_before (Some v) o ≡ Some vs → RowFits (c ∷ cs) vs) [
         | None ↦ λ _ h. absurd (cc)
         | Some ws ↦ λ more h. let same : v ∷ ws ≡ vs = cc in
-            subst (RowFits (c ∷ cs)) same (value_fits c.kind field v (first_of _ _ plain) is, values_fit cs fields ws (second_of _ _ plain) more)
+            subst (RowFits (c ∷ cs)) same (value_fits c.kind field v is, values_fit cs fields ws more)
       ] refl
     ] refl e
-
-plain_onto : (b : ℕ) (fields : List (List ℕ)) → is_plain_byte b ≡ true → are_plain fields ≡ true → are_plain (onto_first b fields) ≡ true
-plain_onto b [] is e = both (both is refl) refl
-plain_onto b (field ∷ fields) is e = both (both is (first_of _ _ e)) (second_of _ _ e)
-
-pub plain_fields : (line : List ℕ) → list_all is_plain_byte line ≡ true → are_plain (fields_of line) ≡ true
-plain_fields [] e = refl
-plain_fields (b ∷ bs) e =
-    elim (eqb b 44) as (λ t. are_plain (cond t ([] ∷ fields_of bs) (onto_first b (fields_of bs))) ≡ true) [
-      | true ↦ plain_fields bs (second_of _ _ e)
-      | false ↦ plain_onto b (fields_of bs) (first_of _ _ e) (plain_fields bs (second_of _ _ e))
-    ]
 
 -- What a cut at a mark gives, in the words of its clauses.
 pub cut_fields : (text front : List ℕ) (more : Option (Bor (List ℕ))) → list_all (λ b. not (eqb b 44)) front ≡ true → MatchOption more (text ≡ front) (λ m. text ≡ front ++ (44 ∷ m.now)) → fields_of text ≡ front ∷ fields_left (option_map (λ m. m.now) more)

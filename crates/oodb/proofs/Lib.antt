@@ -1,12 +1,14 @@
 pub mod Answering
+pub mod SelectBinding
 pub mod CausedBack
 pub mod Handing
 pub mod ImportLaws
-pub mod PrintedParts
-pub mod Quotes
+pub mod Reporting
+pub mod FirstTrees
 pub mod StoreChanges
 pub mod StoreLaws
 pub mod TableReading
+pub mod PlaceRows
 pub mod Causing
 pub mod AnsweredSoFar
 pub mod Running

@@ -1,4 +1,4 @@
--- Rows that go behind output rows, page by page, and the entries of a page of packed rows.
+-- Rows that go behind others, page by page, and the entries of a page of packed rows.
 use Rattle.std.proofs.Common.{◌≡◌, ℕ, zero, suc, ◌+◌, ◌<◌, ◌≤◌, Bool, true, List, [], ◌∷◌, ◌++◌, length, get_or, take, map, Some, slice_get, refl, sym, ap, subst, ◌∙◌, append_assoc, add-zero, arith}
 use Rattle.std.specs.List.{AllByRecursion}
 use Rattle.std.proofs.lemmas.List.{append-nil, map-append, take_more, take_all}
@@ -13,41 +13,37 @@ use Rattle.hv_page.specs.Heap.{heap_kind, IsHeapEntry, IsHeapPage}
 use Rattle.hv_page.specs.Chunk.{IsPacked, IsStored, heap_pages_from, AreHeapPages}
 use Rattle.hv_chunk.proofs.Packing.{flat}
 use Rattle.hv_chunk.proofs.Growing.{pages_count}
-use Rattle.hv_model.specs.declared.query.Cell.{Cell}
-use Rattle.hv_model.specs.Groups.{cell_of_value}
-use Rattle.oodb.specs.RowsOut.{rows_out, AddsRows, HasEntries}
+use Rattle.oodb.specs.RowsRead.{AddsRows, HasEntries}
 
 -- ---- rows that go behind others
 
 -- the row of one entry more
-adds_row : (schema : List Column) (entries : List (List ℕ)) (row : List Value) (entry : List ℕ) (before now after : List (List Cell)) → AddsRows schema entries before now
-    → RowFits schema row → row_bytes schema row ≡ entry → after ≡ now ++ map cell_of_value row ∷ [] → AddsRows schema (entries ++ entry ∷ []) before after
+adds_row : (schema : List Column) (entries : List (List ℕ)) (row : List Value) (entry : List ℕ) (before now after : List (List Value)) → AddsRows schema entries before now
+    → RowFits schema row → row_bytes schema row ≡ entry → after ≡ now ++ row ∷ [] → AddsRows schema (entries ++ entry ∷ []) before after
 adds_row schema entries row entry before now after adds fits spelt more = record {
   rows = adds.rows ++ row ∷ [];
   fit = All-push (RowFits schema) adds.rows row adds.fit fits;
   spelt = map-append (row_bytes schema) adds.rows (row ∷ []) ∙ ap (λ (l : List (List ℕ)). l ++ row_bytes schema row ∷ []) adds.spelt ∙ ap (λ (e : List ℕ). entries ++ e ∷ []) spelt;
-  added = more ∙ ap (λ (l : List (List Cell)). l ++ map cell_of_value row ∷ []) adds.added ∙ append_assoc before (rows_out adds.rows) (map cell_of_value row ∷ [])
-      ∙ ap (λ (l : List (List Cell)). before ++ l) (sym (map-append (map cell_of_value) adds.rows (row ∷ [])));
+  added = more ∙ ap (λ (l : List (List Value)). l ++ row ∷ []) adds.added ∙ append_assoc before adds.rows (row ∷ []);
 }
 
 -- the row of one slot more
-pub adds_slot : (schema : List Column) (view : List (List ℕ)) (slot : ℕ) (row : List Value) (before now after : List (List Cell)) → slot < length view → AddsRows schema (take slot view) before now
-    → RowFits schema row → row_bytes schema row ≡ get_or view slot [] → after ≡ now ++ map cell_of_value row ∷ [] → AddsRows schema (take (slot + 1) view) before after
+pub adds_slot : (schema : List Column) (view : List (List ℕ)) (slot : ℕ) (row : List Value) (before now after : List (List Value)) → slot < length view → AddsRows schema (take slot view) before now
+    → RowFits schema row → row_bytes schema row ≡ get_or view slot [] → after ≡ now ++ row ∷ [] → AddsRows schema (take (slot + 1) view) before after
 adds_slot schema view slot row before now after lt adds fits spelt more =
     subst (λ (entries : List (List ℕ)). AddsRows schema entries before after) (sym (take_more view slot [] lt)) (adds_row schema (take slot view) row (get_or view slot []) before now after adds fits spelt more)
 
 -- the entries of two lists, one after the other
-adds_both : (schema : List Column) (first second : List (List ℕ)) (before between after : List (List Cell)) → AddsRows schema first before between → AddsRows schema second between after → AddsRows schema (first ++ second) before after
+adds_both : (schema : List Column) (first second : List (List ℕ)) (before between after : List (List Value)) → AddsRows schema first before between → AddsRows schema second between after → AddsRows schema (first ++ second) before after
 adds_both schema first second before between after a b = record {
   rows = a.rows ++ b.rows;
   fit = All-append (RowFits schema) a.rows b.rows a.fit b.fit;
   spelt = map-append (row_bytes schema) a.rows b.rows ∙ ap (λ (l : List (List ℕ)). l ++ map (row_bytes schema) b.rows) a.spelt ∙ ap (λ (l : List (List ℕ)). first ++ l) b.spelt;
-  added = b.added ∙ ap (λ (l : List (List Cell)). l ++ rows_out b.rows) a.added ∙ append_assoc before (rows_out a.rows) (rows_out b.rows)
-      ∙ ap (λ (l : List (List Cell)). before ++ l) (sym (map-append (map cell_of_value) a.rows b.rows));
+  added = b.added ∙ ap (λ (l : List (List Value)). l ++ b.rows) a.added ∙ append_assoc before a.rows b.rows;
 }
 
 -- the entries of one page more
-adds_page : (schema : List Column) (parts : List (List (List ℕ))) (k : ℕ) (before now after : List (List Cell)) → k < length parts → AddsRows schema (flat (take k parts)) before now
+adds_page : (schema : List Column) (parts : List (List (List ℕ))) (k : ℕ) (before now after : List (List Value)) → k < length parts → AddsRows schema (flat (take k parts)) before now
     → AddsRows schema (get_or parts k []) now after → AddsRows schema (flat (take (k + 1) parts)) before after
 adds_page schema parts k before now after lt adds more =
     let grown : flat (take (k + 1) parts) ≡ flat (take k parts) ++ get_or parts k [] =
@@ -68,10 +64,10 @@ same_rows schema (row ∷ found) (other ∷ rows) fit stored same =
     let others : found ≡ rows = same_rows schema found rows fit.1 stored.1 later in
     cc
 
--- so where all their bytes went out, they did
-adds_all : (schema : List Column) (entries : List (List ℕ)) (rows : List (List Value)) (before after : List (List Cell)) → AllByRecursion (IsStored schema) rows → entries ≡ map (row_bytes schema) rows → AddsRows schema entries before after → after ≡ before ++ rows_out rows
+-- so where entries of all their bytes went behind others, they did
+adds_all : (schema : List Column) (entries : List (List ℕ)) (rows : List (List Value)) (before after : List (List Value)) → AllByRecursion (IsStored schema) rows → entries ≡ map (row_bytes schema) rows → AddsRows schema entries before after → after ≡ before ++ rows
 adds_all schema entries rows before after stored same adds =
-    adds.added ∙ ap (λ (l : List (List Value)). before ++ rows_out l) (same_rows schema adds.rows rows (recursion_from_All (RowFits schema) adds.rows adds.fit) stored (adds.spelt ∙ same))
+    adds.added ∙ ap (λ (l : List (List Value)). before ++ l) (same_rows schema adds.rows rows (recursion_from_All (RowFits schema) adds.rows adds.fit) stored (adds.spelt ∙ same))
 
 -- ---- pages of packed rows
 
@@ -135,19 +131,19 @@ pub record AreParts (schema : List Column) (pages : List (List ℕ)) (count : �
 parts_are : (schema : List Column) (pages : List (List ℕ)) (rows : List (List Value)) (heap : AreHeapPages written_version schema pages rows) → AreParts schema pages (length pages) heap.parts
 parts_are schema pages rows heap = record { counted = sym (part_count schema pages rows heap); each = page_entries schema pages rows heap }
 
--- the rows of the first pages went out, where the pages are known
-abbrev pub AddsPages : Bool → List Column → List (List ℕ) → ℕ → ℕ → List (List Cell) → List (List Cell) → Type 0
+-- the rows of the first pages went behind others, where the pages are known
+abbrev pub AddsPages : Bool → List Column → List (List ℕ) → ℕ → ℕ → List (List Value) → List (List Value) → Type 0
 AddsPages tells schema pages count page before now =
     tells ≡ true → (parts : List (List (List ℕ))) → AreParts schema pages count parts → AddsRows schema (flat (take page parts)) before now
 
-pub adds_pages_more : (tells : Bool) (schema : List Column) (pages : List (List ℕ)) (count page : ℕ) (before now after : List (List Cell)) → page < count → AddsPages tells schema pages count page before now
+pub adds_pages_more : (tells : Bool) (schema : List Column) (pages : List (List ℕ)) (count page : ℕ) (before now after : List (List Value)) → page < count → AddsPages tells schema pages count page before now
     → (tells ≡ true → (entries : List (List ℕ)) → HasEntries schema pages page entries → AddsRows schema entries now after) → AddsPages tells schema pages count (page + 1) before after
 adds_pages_more tells schema pages count page before now after lt adds more told parts are =
     adds_page schema parts page before now after (omega (arith, are.counted)) (adds told parts are) (more told (get_or parts page []) (are.each page lt))
 
 -- so all rows did
-pub adds_pages_all : (tells : Bool) (schema : List Column) (pages written : List (List ℕ)) (count page : ℕ) (rows : List (List Value)) (before now : List (List Cell)) → AreHeapPages written_version schema written rows → count ≡ length written → count ≤ page
-    → (tells ≡ true → pages ≡ written) → AddsPages tells schema pages count page before now → tells ≡ true → now ≡ before ++ rows_out rows
+pub adds_pages_all : (tells : Bool) (schema : List Column) (pages written : List (List ℕ)) (count page : ℕ) (rows : List (List Value)) (before now : List (List Value)) → AreHeapPages written_version schema written rows → count ≡ length written → count ≤ page
+    → (tells ≡ true → pages ≡ written) → AddsPages tells schema pages count page before now → tells ≡ true → now ≡ before ++ rows
 adds_pages_all tells schema pages written count page rows before now heap all end file adds told =
     let same : pages ≡ written = file told in
     let parts : AreParts schema pages count heap.parts = subst (λ (n : ℕ). AreParts schema pages n heap.parts) (sym all) (subst (λ (l : List (List ℕ)). AreParts schema l (length written) heap.parts) (sym same) (parts_are schema written rows heap)) in

@@ -58,6 +58,9 @@ stands_at xs i x within is = slice_get-get_or xs i x within ∙ ap Some (sym is)
 pub some_is : {X : Type 0} (P : X → Type 0) (o : Option X) (x : X) → o ≡ Some x → IsSomeAnd o P → P x
 some_is P o x is some = subst (λ (p : Option _). IsSomeAnd p P) is some
 
+pub some_and : {X : Type 0} (P : X → Type 0) (o : Option X) (x : X) → o ≡ Some x → P x → IsSomeAnd o P
+some_and P o x is holds = subst (λ (p : Option _). IsSomeAnd p P) (sym is) holds
+
 -- the tables with one in the place of another that has the same name, schema and chunks
 pub database_same : {File : Type 0} (s : Store File) (at : ℕ) (t u : StoredTable File) → t ≡ get_or s.tables.items at t
     → table_of u ≡ table_of t → map table_of (slice_set s.tables.items at u) ≡ map table_of s.tables.items
@@ -96,3 +99,7 @@ step_import s at t u c name within is allowed named schema chunks numbered found
     map-set table_of s.tables.items at u ∙ ap (slice_set (map table_of s.tables.items) at) table in
     import_steps (database_of s) _ c.chunk.rows at (table_of t) (table_number (database_of s) name) found stands allowed
     (ap (λ (tables : List Table). record { tables = tables; made = s.made + 1; length = s.length + 1 }) (sym all))
+
+-- the table of a number in the database
+pub table_stands : {File : Type 0} (s : Store File) (at : ℕ) (t : StoredTable File) → slice_get s.tables.items at ≡ Some t → slice_get (database_of s).tables at ≡ Some (table_of t)
+table_stands s at t stands = slice_get-map table_of s.tables.items at ∙ ap (option_map table_of) stands

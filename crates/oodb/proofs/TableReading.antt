@@ -2,14 +2,13 @@
 use Rattle.std.proofs.Common.{◌≡◌, ℕ, zero, suc, ◌+◌, ◌<◌, ◌≤◌, Bool, true, List, [], ◌∷◌, ◌++◌, length, get_or, map, take, Some, Result, Ok, Err, IfErr, IsErrAnd, refl, sym, ◌∙◌, ap, subst, arith, append_assoc, append-nil, length-append}
 use Rattle.std.specs.List.{flat_map, slice_get}
 use Rattle.std.specs.Option.{option_map}
-use Rattle.std.proofs.lemmas.List.{map-append, take_all}
+use Rattle.std.proofs.lemmas.List.{take_all}
 use Rattle.std.proofs.lemmas.Option.{slice_get-get_or, slice_get-map, get_or_from_slice_get}
 use Rattle.sha2.specs.Sha256.{sha256}
+use Rattle.hv_row.specs.declared.value.Value.{Value}
 use Rattle.hv_page.specs.Layout.{written_version}
 use Rattle.hv_page.specs.Chunk.{AreHeapPages}
 use Rattle.hv_chunk.specs.Building.{IsBuilt}
-use Rattle.hv_model.specs.declared.query.Cell.{Cell}
-use Rattle.hv_model.specs.Groups.{cell_of_value}
 use Rattle.hv_model.specs.declared.reply.Why.{Why}
 use Rattle.hv_model.specs.declared.reply.Failure.{Failure}
 use Rattle.hv_model.specs.declared.reply.Failure.TheVariants.{Read, Write, Damaged, Memory}
@@ -19,14 +18,21 @@ use Rattle.oodb.specs.declared.store.Store.{Store}
 use Rattle.oodb.specs.Stored.{chunk_of, table_of, database_of}
 use Rattle.oodb.specs.Reads.{PortSeen, IsIdle, ReadsOn, GoesOn}
 use Rattle.oodb.specs.Damage.{IsWhy, IsDamage, IsUnread, WasWritten, StandsOnNew, FailedBy}
-use Rattle.oodb.specs.RowsOut.{rows_out}
-use Rattle.oodb.proofs.StoreLaws.{table_stands}
+use Rattle.oodb.proofs.StoreChanges.{table_stands}
 use Rattle.oodb.proofs.Landed.{reads_both, rose_earlier}
 
 -- the first chunks of a table were read
-pub record ReadSoFar {File : Type 0} (tells : Bool) (chunks : List (StoredChunk File)) (count : ℕ) (before now : PortSeen File) (out : List (List Cell)) : Type 0 where
+pub record ReadSoFar {File : Type 0} (tells : Bool) (chunks : List (StoredChunk File)) (count : ℕ) (before now : PortSeen File) (out : List (List Value)) : Type 0 where
   pub goes_on : GoesOn before now
-  pub rows : tells ≡ true → out ≡ rows_out (flat_map (λ c. c.chunk.rows) (take count chunks))
+  pub rows : tells ≡ true → out ≡ flat_map (λ c. c.chunk.rows) (take count chunks)
+
+-- an idle port, where nothing is done
+pub goes_nowhere : {File : Type 0} (port : PortSeen File) → IsIdle port → GoesOn port port
+goes_nowhere port idle = record {
+  reads = record { none = idle.none; room = refl; faults = omega arith; more = []; landed = sym (append-nil port.reading.landings) };
+  faults = omega arith;
+  empty = idle.empty;
+}
 
 -- a port went on by reads alone
 pub goes_on_more : {File : Type 0} (a b c : PortSeen File) → GoesOn a b → ReadsOn b.reading c.reading → c.write_faults ≡ b.write_faults → c.written ≡ b.written → GoesOn a c
@@ -46,26 +52,25 @@ flat_map_take f (y ∷ ys) (suc count) x within is =
     ap (λ n. flat_map f (take n (y ∷ ys))) next ∙ ap (λ l. f y ++ l) (flat_map_take f ys count x (omega arith) is) ∙ sym (append_assoc (f y) (flat_map f (take count ys)) (f x))
 
 -- before the first chunk
-pub none_read : {File : Type 0} (tells : Bool) (chunks : List (StoredChunk File)) (port : PortSeen File) (out : List (List Cell)) → IsIdle port → out ≡ [] → ReadSoFar tells chunks 0 port port out
+pub none_read : {File : Type 0} (tells : Bool) (chunks : List (StoredChunk File)) (port : PortSeen File) (out : List (List Value)) → IsIdle port → out ≡ [] → ReadSoFar tells chunks 0 port port out
 none_read tells chunks port out idle nothing = record {
-  goes_on = record { reads = record { none = idle.none; room = refl; faults = omega arith; more = []; landed = sym (append-nil port.reading.landings) }; faults = omega arith; empty = idle.empty };
+  goes_on = goes_nowhere port idle;
   rows = λ t. nothing;
 }
 
 -- a chunk more was read
-pub one_more_read : {File : Type 0} (tells : Bool) (chunks : List (StoredChunk File)) (count : ℕ) (c : StoredChunk File) (before mid after : PortSeen File) (out more : List (List Cell)) → ReadSoFar tells chunks count before mid out
+pub one_more_read : {File : Type 0} (tells : Bool) (chunks : List (StoredChunk File)) (count : ℕ) (c : StoredChunk File) (before mid after : PortSeen File) (out more : List (List Value)) → ReadSoFar tells chunks count before mid out
     → count < length chunks → c ≡ get_or chunks count c → ReadsOn mid.reading after.reading → after.write_faults ≡ mid.write_faults → after.written ≡ mid.written
-    → (tells ≡ true → more ≡ out ++ rows_out c.chunk.rows) → ReadSoFar tells chunks (count + 1) before after more
+    → (tells ≡ true → more ≡ out ++ c.chunk.rows) → ReadSoFar tells chunks (count + 1) before after more
 one_more_read tells chunks count c before mid after out more far within is reads faults written rows = record {
   goes_on = goes_on_more before mid after far.goes_on reads faults written;
-  rows = λ t. rows t ∙ ap (λ l. l ++ rows_out c.chunk.rows) (far.rows t) ∙ sym (map-append (map cell_of_value) (flat_map (λ c. c.chunk.rows) (take count chunks)) c.chunk.rows)
-      ∙ ap rows_out (sym (flat_map_take (λ c. c.chunk.rows) chunks count c within is));
+  rows = λ t. rows t ∙ ap (λ l. l ++ c.chunk.rows) (far.rows t) ∙ sym (flat_map_take (λ c. c.chunk.rows) chunks count c within is);
 }
 
 -- all chunks of a table were read
-pub all_read : {File : Type 0} (tells : Bool) (chunks its : List (StoredChunk File)) (count : ℕ) (before now : PortSeen File) (out : List (List Cell)) → ReadSoFar tells chunks count before now out → length chunks ≤ count → chunks ≡ its
-    → tells ≡ true → out ≡ rows_out (flat_map (λ c. c.chunk.rows) its)
-all_read tells chunks its count before now out far all are t = far.rows t ∙ ap (λ l. rows_out (flat_map (λ c. c.chunk.rows) l)) (take_all count chunks all ∙ are)
+pub all_read : {File : Type 0} (tells : Bool) (chunks its : List (StoredChunk File)) (count : ℕ) (before now : PortSeen File) (out : List (List Value)) → ReadSoFar tells chunks count before now out → length chunks ≤ count → chunks ≡ its
+    → tells ≡ true → out ≡ flat_map (λ c. c.chunk.rows) its
+all_read tells chunks its count before now out far all are t = far.rows t ∙ ap (flat_map (λ c. c.chunk.rows)) (take_all count chunks all ∙ are)
 
 -- what is recorded of a page that was written
 recorded_at : {X : Type 0} (digest : List ℕ → List X) (written : List (List ℕ)) (page : ℕ) (bytes : List ℕ) → slice_get written page ≡ Some bytes → get_or (map digest written) page [] ≡ digest bytes

@@ -2,7 +2,7 @@ pub mod Lines
 pub mod Reads
 pub mod Damage
 pub mod Causes
-pub mod RowsOut
+pub mod RowsRead
 pub mod Stored
 pub mod Imported
 pub mod Answer

@@ -1,5 +1,5 @@
 -- Tables whose rows are in sealed files, and the database that they are. This project's own.
-use Rattle.std.specs.Prelude.{ℕ, ◌≤◌, Bool, List, map}
+use Rattle.std.specs.Prelude.{ℕ, ◌≤◌, Bool, List, length, map}
 use Rattle.std.specs.List.{AllByRecursion}
 use Rattle.hv_model.specs.declared.catalogue.Chunk.{Chunk}
 use Rattle.hv_model.specs.declared.catalogue.Table.{Table}
@@ -25,7 +25,8 @@ database_of s = record { tables = map table_of s.tables.items; made = s.made; le
 abbrev pub TableIsSound : {File : Type 0} → Bool → (File → List (List ℕ)) → StoredTable File → Type 0
 TableIsSound tells pages t = AllByRecursion (λ c. IsBuilt tells pages t.schema c.chunk.rows c.chunk) t.chunks.items
 
--- each chunk of each table is the chunk of its rows, and each chunk ever made took a command
+-- each chunk of each table is the chunk of its rows, and each table and each chunk ever made took a command
 pub record IsSound {File : Type 0} (tells : Bool) (pages : File → List (List ℕ)) (s : Store File) : Type 0 where
   pub tables : AllByRecursion (TableIsSound tells pages) s.tables.items
   pub made : s.made ≤ s.length
+  pub count : length s.tables.items ≤ s.length

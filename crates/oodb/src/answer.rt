@@ -1,13 +1,13 @@
 // The answer to one statement.
-ghost use Rattle.hv_model.specs.declared.reply.Reply.TheVariants.{Done, Rows, Refused};
+ghost use Rattle.hv_model.specs.declared.reply.Reply.TheVariants.{Done};
 ghost use Rattle.hv_model.specs.declared.catalogue.Entry.{Entry};
-ghost use Rattle.std.specs.Prelude.{◌≡◌, ◌<◌, ◌≤◌, ◌+◌, ℕ, [], ◌∷◌, ◌++◌, List, length, true, Some, None, IfOk, IfErr, OnOk, OnErr, vec_len, vec_capacity};
+ghost use Rattle.std.specs.Prelude.{◌≡◌, ◌<◌, ◌≤◌, ◌+◌, ℕ, [], ◌∷◌, ◌++◌, List, length, true, Ok, IfOk, IfErr, OnOk, OnErr, vec_len, vec_capacity};
 ghost use Rattle.hv_model.specs.Database.{most_entries};
 ghost use Rattle.hv_model.specs.Script.{line_list};
-ghost use Rattle.hv_model.specs.Built.{tree_of};
+ghost use Rattle.hv_model.specs.Parsed.{parsed, tree_of};
 ghost use Rattle.hv_model.specs.Legal.{may_fail};
 ghost use Rattle.hv_model.specs.OneSession.{Settles};
-ghost use Rattle.hv_model.specs.declared.built.Built.TheVariants as tree;
+ghost use Rattle.hv_model.specs.declared.tree.Ast.TheVariants as ast;
 ghost use Rattle.oodb.specs.Answer.{Keeps, IsImportOf, Imports};
 ghost use Rattle.oodb.specs.Stored.{database_of, IsSound};
 ghost use Rattle.oodb.specs.Reads.{port_seen, IsIdle, GoesOn};
@@ -15,15 +15,17 @@ ghost use Rattle.oodb.specs.Damage.{FailedBy, RepliedBy, IsUnfailed};
 ghost use Rattle.oodb.specs.Imported.{IsUnbuilt};
 
 use crate::access::PageAccess;
+use crate::binding::bind_select;
 use crate::build::build_chunk;
 use crate::import::spells_rows;
-use crate::select::read_table;
 use crate::store::Store;
+use crate::tables::read_tables;
+use hv_bind::BindFault;
 use hv_dev::{PageFile, PageSink, Port};
-use hv_model::{
-    Built, Detail, Entry, Failure, MAX_IMPORT_LINES, Refusal, Reply, Statement, tree_of,
-};
-use hv_row::{Bytes, Columns, Copied, Schema, is_schema};
+use hv_expr::{NaiveFault, naive};
+use hv_model::{Ast, Detail, Entry, Failure, Refusal, Reply, SelectAst, Statement, Word};
+use hv_row::{Columns, Copied, Schema, is_schema};
+use hv_sql::{SqlFault, parse};
 use hv_view::ChunkView;
 use std::alloc::{AllocError, Global};
 
@@ -36,6 +38,7 @@ pub fn answer<P: Port>(
     history: &mut Vec<Entry>,
     access: &mut PageAccess<P>,
 ) -> Reply
+    requires text { length statement.now.text ≤ 67108864 }
     requires short { length (line_list statement.now.lines) ≤ 1000000 }
     requires sound { IsSound P.File.tells P.File.pages store.old }
     requires counted { store.old.length ≡ length history.old.items }
@@ -64,6 +67,7 @@ fn try_answer<P: Port>(
     history: &mut Vec<Entry>,
     access: &mut PageAccess<P>,
 ) -> Result<Reply, Failure>
+    requires text { length statement.now.text ≤ 67108864 }
     requires short { length (line_list statement.now.lines) ≤ 1000000 }
     requires sound { IsSound P.File.tells P.File.pages store.old }
     requires counted { store.old.length ≡ length history.old.items }
@@ -79,31 +83,29 @@ fn try_answer<P: Port>(
     ensures counted { store.new.length ≡ length history.new.items }
     ensures room { vec_capacity history.old ≤ vec_capacity history.new }
 {
-    match tree_of(alloc, statement.text.as_slice())? {
-        None => Ok(unbuilt(store)),
-        Some(Built::Create { table, columns }) => Ok(create(
+    match parse(alloc, statement.text.as_slice()) {
+        Ok(Ast::Create { table, columns }) => Ok(create(
             alloc, statement, table, columns, store, history,
         )?),
-        Some(Built::Import { table, lines }) => import(
-            alloc,
-            statement,
-            table,
-            lines,
-            store,
-            history,
-            &mut access.port,
-        ),
-        Some(Built::SelectAll { table }) => select(alloc, statement, table, store, access),
+        Ok(Ast::Import { table, .. }) => {
+            import(alloc, statement, table, store, history, &mut access.port)
+        }
+        Ok(Ast::Select(tree)) => select(alloc, statement, &tree, store, access),
+        Ok(Ast::Purge { .. } | Ast::Merge { .. } | Ast::Session { .. } | Ast::Barrier) => {
+            Ok(refused(store, Refusal::Unbuilt))
+        }
+        Err(SqlFault::Syntax { byte }) => Ok(refused(store, Refusal::Syntax { byte })),
+        Err(SqlFault::Memory) => Err(Failure::Memory),
     }
 }
 
-// The refusal of a statement that isn't built.
-fn unbuilt<F: PageFile>(store: &Store<F>) -> Reply
-    ensures { result ≡ Reply.Refused store.now.length Refusal.Unbuilt }
+// The refusal of a statement, which changes nothing.
+fn refused<F: PageFile>(store: &Store<F>, cause: Refusal) -> Reply
+    ensures { result ≡ Reply.Refused store.now.length cause }
 {
     Reply::Refused {
         at: store.length,
-        cause: Refusal::Unbuilt,
+        cause,
     }
 }
 
@@ -127,12 +129,12 @@ fn commit(history: &mut Vec<Entry>, entry: Entry)
 fn create<F: PageFile>(
     alloc: Global,
     statement: &Statement,
-    table: Bytes,
+    table: Word,
     columns: Columns,
     store: &mut Store<F>,
     history: &mut Vec<Entry>,
 ) -> Result<Reply, AllocError>
-    requires is { tree_of statement.now.text ≡ Some (tree.Create table columns) }
+    requires is { parsed statement.now.text ≡ Ok (ast.Create table columns) }
     requires sound { IsSound F.tells F.pages store.old }
     requires counted { store.old.length ≡ length history.old.items }
     requires room { length history.old.items < most_entries → vec_len history.old < vec_capacity history.old }
@@ -143,20 +145,20 @@ fn create<F: PageFile>(
     ensures counted { store.new.length ≡ length history.new.items }
     ensures room { vec_capacity history.old ≤ vec_capacity history.new }
 {
-    if !is_schema(columns.as_slice()) || store.create_refusal(&table).is_some() {
-        return Ok(unbuilt(store));
+    if !is_schema(columns.as_slice()) || store.create_refusal(&table.name).is_some() {
+        return Ok(refused(store, Refusal::Unbuilt));
     }
     let what = Detail::Create {
-        table: table.copy(alloc)?,
+        table: table.name.copy(alloc)?,
     };
     let entry = Entry {
         session: statement.session.copy(alloc)?,
         number: statement.number,
         what: Detail::Create {
-            table: table.copy(alloc)?,
+            table: table.name.copy(alloc)?,
         },
     };
-    store.create_table(alloc, table, Schema::new(columns))?;
+    store.create_table(alloc, table.name, Schema::new(columns))?;
     commit(history, entry);
     Ok(done(store, what))
 }
@@ -164,13 +166,12 @@ fn create<F: PageFile>(
 fn import<P: PageSink>(
     alloc: Global,
     statement: &Statement,
-    table: Bytes,
-    lines: u32,
+    table: Word,
     store: &mut Store<P::File>,
     history: &mut Vec<Entry>,
     port: &mut P,
 ) -> Result<Reply, Failure>
-    requires is { tree_of statement.now.text ≡ Some (tree.Import table lines) }
+    requires is { (lines : ℕ) × (parsed statement.now.text ≡ Ok (ast.Import table lines)) }
     requires short { length (line_list statement.now.lines) ≤ 1000000 }
     requires sound { IsSound P.File.tells P.File.pages store.old }
     requires counted { store.old.length ≡ length history.old.items }
@@ -187,8 +188,8 @@ fn import<P: PageSink>(
     ensures counted { store.new.length ≡ length history.new.items }
     ensures room { vec_capacity history.old ≤ vec_capacity history.new }
 {
-    match import_of(alloc, statement, &table, lines, store)? {
-        None => Ok(unbuilt(store)),
+    match import_of(alloc, statement, &table, store)? {
+        None => Ok(refused(store, Refusal::Unbuilt)),
         Some(at) => add_chunk(alloc, statement, table, at, store, history, port),
     }
 }
@@ -197,17 +198,13 @@ fn import<P: PageSink>(
 fn import_of<F: PageFile>(
     alloc: Global,
     statement: &Statement,
-    table: &Bytes,
-    lines: u32,
+    table: &Word,
     store: &Store<F>,
 ) -> Result<Option<usize>, AllocError>
-    requires is { tree_of statement.now.text ≡ Some (tree.Import table.now lines) }
+    requires is { (lines : ℕ) × (parsed statement.now.text ≡ Ok (ast.Import table.now lines)) }
     ensures { IfOk result (λ found. IsImportOf statement.now table.now (database_of store.now) found) }
 {
-    if lines > MAX_IMPORT_LINES {
-        return Ok(None);
-    }
-    let Some(at) = store.table_number(table) else {
+    let Some(at) = store.table_number(&table.name) else {
         return Ok(None);
     };
     let schema = &store.tables[at].schema;
@@ -224,7 +221,7 @@ fn import_of<F: PageFile>(
 fn add_chunk<P: PageSink>(
     alloc: Global,
     statement: &Statement,
-    table: Bytes,
+    table: Word,
     at: usize,
     store: &mut Store<P::File>,
     history: &mut Vec<Entry>,
@@ -247,7 +244,7 @@ fn add_chunk<P: PageSink>(
     ensures counted { store.new.length ≡ length history.new.items }
     ensures room { vec_capacity history.old ≤ vec_capacity history.new }
 {
-    let name = table.copy(alloc)?;
+    let name = table.name.copy(alloc)?;
     let session = statement.session.copy(alloc)?;
     store.reserve(at)?;
     let schema = &store.tables[at].schema;
@@ -267,18 +264,19 @@ fn add_chunk<P: PageSink>(
             },
         },
     );
+    let table = table.name;
     Ok(done(store, Detail::Import { table, chunk, rows }))
 }
 
-// The rows of `SELECT *`.
+// The answer of a select, over the rows of all its tables.
 fn select<P: Port>(
     alloc: Global,
     statement: &Statement,
-    table: Bytes,
+    tree: &SelectAst,
     store: &Store<P::File>,
     access: &mut PageAccess<P>,
 ) -> Result<Reply, Failure>
-    requires is { tree_of statement.now.text ≡ Some (tree.SelectAll table) }
+    requires is { parsed statement.now.text ≡ Ok (ast.Select tree.now) }
     requires sound { IsSound P.File.tells P.File.pages store.now }
     requires idle { IsIdle (port_seen P.reading P.write_faults P.written access.old.port) }
     ensures settles { IfOk result (λ reply. (max : ℕ) (history : List Entry) → length history ≡ store.now.length → Settles statement.now max P.File.tells (database_of store.now) history reply (database_of store.now) history) }
@@ -287,11 +285,18 @@ fn select<P: Port>(
     ensures cause { IfErr result (λ cause. FailedBy P.File.tells (database_of store.now) (port_seen P.reading P.write_faults P.written access.old.port) (port_seen P.reading P.write_faults P.written access.new.port) cause) }
     ensures goes_on { GoesOn (port_seen P.reading P.write_faults P.written access.old.port) (port_seen P.reading P.write_faults P.written access.new.port) }
 {
-    let Some(at) = store.table_number(&table) else {
-        return Ok(unbuilt(store));
+    let query = match bind_select(alloc, tree, store) {
+        Ok(query) => query,
+        Err(BindFault::Refused(cause)) => return Ok(refused(store, cause)),
+        Err(BindFault::Memory) => return Err(Failure::Memory),
     };
-    Ok(Reply::Rows {
-        at: store.length,
-        rows: read_table(alloc, store, at, access)?,
-    })
+    let tables = read_tables(alloc, store, query.places.as_slice(), access)?;
+    match naive(alloc, &query, &tables) {
+        Ok(rows) => Ok(Reply::Rows {
+            at: store.length,
+            rows,
+        }),
+        Err(NaiveFault::EmptyAggregate) => Ok(refused(store, Refusal::EmptyAggregate)),
+        Err(NaiveFault::Memory) => Err(Failure::Memory),
+    }
 }

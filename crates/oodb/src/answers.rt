@@ -42,6 +42,7 @@ pub fn statements(script: &Script) -> &[Statement]
     requires { HasOneSession script.now }
     ensures one { IsOneSession script.now result.now }
     ensures short { (k : ℕ) (x : Statement) → slice_get result.now k ≡ Some x → length (line_list x.lines) ≤ 1000000 }
+    ensures texts { (k : ℕ) (x : Statement) → slice_get result.now k ≡ Some x → length x.text ≤ 67108864 }
 {
     match script.phases.as_slice() {
         [phase, ..] => phase.as_slice(),
@@ -59,6 +60,7 @@ pub fn answer_all<P: Port>(
 ) -> Outcome
     requires one { IsOneSession script.now phase.now }
     requires short { (k : ℕ) (x : Statement) → slice_get phase.now k ≡ Some x → length (line_list x.lines) ≤ 1000000 }
+    requires texts { (k : ℕ) (x : Statement) → slice_get phase.now k ≡ Some x → length x.text ≤ 67108864 }
     requires fresh { port_seen P.reading P.write_faults P.written access.old.port ≡ fresh_port P.File }
     requires no_entry { outcome.history.items ≡ [] }
     requires no_reply { outcome.replies.items ≡ [] }

@@ -6,9 +6,7 @@ ghost use Rattle.hv_row.specs.Row.{RowFits};
 ghost use Rattle.hv_model.specs.Import.{is_plain_byte, is_integer, field_value, fields_of, values_of, row_of, rows_of_lines, rows_of};
 ghost use Rattle.hv_model.specs.Script.{line_list};
 
-use hv_row::{
-    Bytes, ColType, Column, MAX_ROW_BYTES, MAX_TEXT_BYTES, Row, Schema, Value, row_length,
-};
+use hv_row::{Bytes, ColType, Column, MAX_ROW_BYTES, Row, Schema, Value, is_text, row_length};
 use std::alloc::{AllocError, Global};
 
 /// Whether an import's data spells rows under a schema, one a line.
@@ -43,7 +41,7 @@ fn are_plain(bytes: &[u8]) -> bool
 fn is_plain_byte(byte: u8) -> bool
     ensures { result ≡ is_plain_byte byte }
 {
-    byte < 128 && byte != b'"' && byte != b'\r'
+    byte != b'"' && byte != b'\r'
 }
 
 // Whether each line of plain bytes spells a row.
@@ -112,7 +110,7 @@ fn field_value(alloc: Global, kind: ColType, field: &[u8]) -> Result<Option<Valu
     match kind {
         ColType::Int => Ok(integer(field).map(Value::Int)),
         ColType::Text => {
-            if field.len() > MAX_TEXT_BYTES {
+            if !is_text(field) {
                 return Ok(None);
             }
             Ok(Some(Value::Text(Bytes::from_slice(alloc, field)?)))
@@ -201,11 +199,12 @@ mod tests {
 
     #[test]
     fn reads_rows(rt: HostRuntime) -> Result<(), Fail> {
-        let cases: [(&[u8], &[(i64, &[u8])]); 5] = [
+        let cases: [(&[u8], &[(i64, &[u8])]); 6] = [
             (b"", &[]),
             (b"1,a\n", &[(1, b"a")]),
             (b"1,a\n-02,'b c'", &[(1, b"a"), (-2, b"'b c'")]),
             (b"+7,x\n", &[(7, b"x")]),
+            (b"1,\xc3\xa9\n", &[(1, b"\xc3\xa9")]),
             (b"-9223372036854775808,\n", &[(i64::MIN, b"")]),
         ];
         for (bytes, want) in cases {

@@ -22,8 +22,11 @@ fn fault_name(name: FaultName) -> &'static [u8]
 {
     match name {
         FaultName::TooLong => b"too-long",
+        FaultName::NotUtf8 => b"not-utf8",
         FaultName::Unended => b"unended",
+        FaultName::LongImport => b"long-import",
         FaultName::ShortImport => b"short-import",
+        FaultName::TooManyStatements => b"too-many-statements",
     }
 }
 

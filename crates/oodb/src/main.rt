@@ -5,6 +5,7 @@
 mod access;
 mod answer;
 mod answers;
+mod binding;
 mod build;
 mod import;
 mod law;
@@ -13,9 +14,9 @@ mod memory;
 mod pages;
 mod report;
 mod run;
-mod select;
 mod status;
 mod store;
+mod tables;
 #[cfg(test)]
 mod tests;
 

@@ -1,38 +1,37 @@
 // The rows of a chunk, read page by page.
-ghost use Rattle.std.specs.Prelude.{◌≡◌, ℕ, [], ◌<◌, ◌++◌, List, length, get_or, map, true, OnOk, IfOk, IfErr};
+ghost use Rattle.std.specs.Prelude.{◌≡◌, ℕ, [], ◌<◌, ◌++◌, List, length, get_or, true, OnOk, IfErr};
 ghost use Rattle.std.specs.List.{AllByRecursion};
 ghost use Rattle.sha2.specs.Sha256.{sha256};
 ghost use Rattle.hv_page.specs.Heap.{IsHeapEntry};
 ghost use Rattle.hv_dev.specs.Reading.{IsPageOf};
 ghost use Rattle.hv_chunk.specs.Building.{IsBuilt};
-ghost use Rattle.hv_model.specs.Groups.{cell_of_value};
 ghost use Rattle.oodb.specs.Reads.{ReadsOn, BroughtBytes, first_bytes};
 ghost use Rattle.oodb.specs.Damage.{IsUnread};
-ghost use Rattle.oodb.specs.RowsOut.{rows_out, AddsRows, HasEntries};
+ghost use Rattle.oodb.specs.RowsRead.{AddsRows, HasEntries};
 
 use crate::access::PageAccess;
 use hv_chunk::Chunk;
 use hv_dev::Port;
 use hv_heap::row_at;
-use hv_model::{Cell, Failure, OutRow, OutRows, Why};
+use hv_model::{Failure, Why};
 use hv_page::{HeapView, digest, parse_heap};
-use hv_row::{Row, Schema, Value};
+use hv_row::{Rows, Schema};
 use hv_view::ChunkView;
 use std::alloc::{AllocError, Global};
 use std::sync::Arc;
 
-/// Puts the rows of a chunk of that number behind the output rows, in the chunk's order.
+/// Puts the rows of a chunk of that number behind the rows, in the chunk's order.
 pub fn read_chunk<P: Port>(
     alloc: Global,
     number: u32,
     chunk: &Chunk<P::File>,
     access: &mut PageAccess<P>,
-    out: &mut OutRows,
+    out: &mut Rows,
 ) -> Result<(), Failure>
     requires built { IsBuilt P.File.tells P.File.pages chunk.now.schema chunk.now.rows chunk.now }
     requires room { 0 < (P.reading access.old.port).room }
     requires idle { (P.reading access.old.port).in_flight ≡ [] }
-    ensures rows { OnOk result (P.File.tells ≡ true → out.new ≡ out.old ++ rows_out chunk.now.rows) }
+    ensures rows { OnOk result (P.File.tells ≡ true → out.new ≡ out.old ++ chunk.now.rows) }
     ensures cause { IfErr result (λ cause. IsUnread P.File.tells number chunk.now (P.reading access.old.port) (P.reading access.new.port) cause) }
     ensures reads { ReadsOn (P.reading access.old.port) (P.reading access.new.port) }
     ensures faults { P.write_faults access.new.port ≡ P.write_faults access.old.port }
@@ -44,14 +43,14 @@ pub fn read_chunk<P: Port>(
     Ok(())
 }
 
-// Puts the rows of one page of the chunk behind the output rows.
+// Puts the rows of one page of the chunk behind the rows.
 fn read_rows<P: Port>(
     alloc: Global,
     number: u32,
     chunk: &Chunk<P::File>,
     page: u32,
     access: &mut PageAccess<P>,
-    out: &mut OutRows,
+    out: &mut Rows,
 ) -> Result<(), Failure>
     requires built { IsBuilt P.File.tells P.File.pages chunk.now.schema chunk.now.rows chunk.now }
     requires within { page < chunk.now.heap_pages }
@@ -113,40 +112,18 @@ fn read_page<P: Port>(
     Ok(())
 }
 
-// Puts the rows of a page behind the output rows.
+// Puts the rows of a page behind the rows.
 fn push_rows(
     alloc: Global,
     view: &HeapView<'_>,
     schema: &Schema,
-    out: &mut OutRows,
+    out: &mut Rows,
 ) -> Result<(), AllocError>
     requires parsed { AllByRecursion (IsHeapEntry schema.now) view.now }
     ensures { OnOk result (AddsRows schema.now view.now out.old out.new) }
 {
     for slot in 0..view.count() {
-        let row = row_at(alloc, view, slot, schema)?;
-        out.push(row_out(alloc, row)?)?;
+        out.push(row_at(alloc, view, slot, schema)?)?;
     }
     Ok(())
-}
-
-// A row as an output row.
-fn row_out(alloc: Global, row: Row) -> Result<OutRow, AllocError>
-    ensures { IfOk result (λ cells. cells ≡ map cell_of_value row) }
-{
-    let mut cells = OutRow::with_capacity(alloc, row.len())?;
-    for value in row.into_vec() {
-        cells.push(cell_of_value(value))?;
-    }
-    Ok(cells)
-}
-
-// A value as a cell.
-fn cell_of_value(value: Value) -> Cell
-    ensures { result ≡ cell_of_value value }
-{
-    match value {
-        Value::Int(number) => Cell::Num(i128::from(number)),
-        Value::Text(text) => Cell::Txt(text),
-    }
 }

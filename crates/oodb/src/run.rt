@@ -12,7 +12,7 @@ ghost use Rattle.hv_dev.specs.Reading.{went};
 ghost use Rattle.oodb.specs.Reads.{port_seen, fresh_port};
 ghost use Rattle.oodb.specs.Causes.{DeviceKept, IsCalm};
 ghost use Rattle.oodb.specs.Statuses.{TellsFault, CutShort, SinkKept, IsNoScript, SinkCalm, IsAnswered};
-ghost use Rattle.hv_io.specs.Printing.{blank};
+ghost use Rattle.hv_model.specs.declared.script.Script.{Script};
 ghost use Rattle.hv_model.specs.Report.{report_text};
 ghost use Rattle.hv_script.specs.Script.{HasOneSession};
 ghost use Rattle.oodb.specs.declared.status.Status.TheVariants as status;
@@ -20,13 +20,14 @@ ghost use Rattle.oodb.specs.declared.status.Status.TheVariants as status;
 use crate::access::PageAccess;
 use crate::answers::{Outcome, answer_all, statements};
 use crate::lines::{put_fault_line, put_word_line};
-use crate::report::print_report;
+use crate::report::Blank;
 use crate::status::Status;
 use hv_dev::{Device, Order};
 use hv_frames::make;
-use hv_io::{Printer, PutAll, Sink, Source};
+use hv_io::{PutAll, Sink, Source};
 use hv_model::{Options, Reply, Script};
-use hv_row::{Bytes, Listed};
+use hv_report::write_report;
+use hv_row::Bytes;
 use hv_script::{ReadScriptFault, read_script, read_words};
 use std::alloc::{AllocError, Global};
 
@@ -92,7 +93,7 @@ fn run_script<S: Source, K: Sink, D: Device>(
     }
 }
 
-// Answers a script's statements and writes the report. All memory for pages, the history, the replies and the writing is taken before the
+// Answers a script's statements and writes the report. All memory for pages, the history, the replies and the report is taken before the
 // first statement.
 fn report<K: Sink, D: Device>(alloc: Global, script: &Script, out: &mut K, dev: &mut D) -> Status
     requires { HasOneSession script.now }
@@ -102,7 +103,7 @@ fn report<K: Sink, D: Device>(alloc: Global, script: &Script, out: &mut K, dev: 
     let Ok(room) = Outcome::with_room(alloc, phase.len()) else {
         return Status::Memory;
     };
-    let Ok(printer) = Printer::new(alloc) else {
+    let Ok(blank) = Blank::new(alloc) else {
         return Status::Memory;
     };
     let Ok(mut access) = open_access(alloc, dev) else {
@@ -110,7 +111,7 @@ fn report<K: Sink, D: Device>(alloc: Global, script: &Script, out: &mut K, dev: 
     };
     let outcome = answer_all(alloc, script, phase, room, &mut access);
     dev.back(access.close());
-    write_report(printer, script, outcome, out)
+    hand_over(blank, outcome, out)
 }
 
 // A port with room for one read, and the frame that it fills.
@@ -129,22 +130,13 @@ fn open_access<D: Device>(alloc: Global, dev: &mut D) -> Result<PageAccess<D::Po
     }
 }
 
-// Writes the report on an outcome.
-fn write_report<K: Sink>(printer: Printer, script: &Script, outcome: Outcome, out: &mut K) -> Status
-    requires { printer ≡ blank }
-    ensures { HandsOver (report_text script.now outcome.history.items (outcome.replies.items ∷ [])) (status_of outcome.replies.items) result (seen K.taken K.faults K.zeros out.old) (seen K.taken K.faults K.zeros out.new) }
+// Writes the report on an outcome of a script of one session.
+fn hand_over<K: Sink>(blank: Blank, outcome: Outcome, out: &mut K) -> Status
+    ensures { (script : Script) → HasOneSession script → HandsOver (report_text script outcome.history.items (outcome.replies.items ∷ [])) (status_of outcome.replies.items) result (seen K.taken K.faults K.zeros out.old) (seen K.taken K.faults K.zeros out.new) }
 {
-    let mut printer = printer;
-    let Outcome { history, replies } = outcome;
-    let full = full_status(replies.as_slice());
-    print_report(
-        &mut printer,
-        out,
-        script,
-        history.as_slice(),
-        &[Listed::from_vec(replies)],
-    );
-    handed(printer.finish(out), full)
+    let full = full_status(outcome.replies.as_slice());
+    let report = blank.filled(outcome);
+    handed(write_report(out, &report), full)
 }
 
 // The status of a report that is taken whole.
@@ -167,10 +159,7 @@ fn some_failed(replies: &[Reply]) -> bool
 fn is_failed(reply: &Reply) -> bool
     ensures { result ≡ is_failed reply.now }
 {
-    match reply {
-        Reply::Failed { .. } => true,
-        _ => false,
-    }
+    matches!(reply, Reply::Failed { .. })
 }
 
 // The status of a text that was handed over: the full one where all of it was taken.

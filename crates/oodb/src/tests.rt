@@ -2,7 +2,10 @@
 ghost use Rattle.std.specs.Prelude.{◌<◌};
 
 mod devices;
+mod faults;
+mod limits;
 mod scripts;
+mod selects;
 
 use crate::memory::run_in_memory;
 use crate::run::run;
@@ -11,6 +14,7 @@ use hv_dev::{CleanDevice, Device};
 use hv_io::{MemSink, MemSource};
 use hv_row::Bytes;
 use std::alloc::{AllocError, Global};
+use std::process::Abort;
 use std::test::Fail;
 
 // How a run ended, and what its sink took.
@@ -79,13 +83,42 @@ fn ran_over<D: Device>(alloc: Global, script: &str, device: &mut D) -> Result<Ta
     })
 }
 
+// Runs each case: a script, a line `----`, and all that the run writes. A line `====` parts two cases.
+fn meet(rt: &impl Abort, alloc: Global, cases: &str) -> Result<(), Fail> {
+    for case in cases.split("====\n") {
+        let (script, written) = case.split_once("\n----\n").ok_or("a case without ----")?;
+        let status = status_with(written);
+        let got = ran(alloc, &["run"], script, None, 100, None)?;
+        assert_eq!(rt; got.status, status, "{script}");
+        assert_eq!(rt; got.taken.as_slice(), written.as_bytes(), "{script}");
+    }
+    Ok(())
+}
+
+// The status of a run that writes this.
+fn status_with(written: &str) -> Status {
+    if written.starts_with("fault ") {
+        Status::Script
+    } else {
+        Status::Fine
+    }
+}
+
 const FIRST: &str =
     "CREATE TABLE t (a INT, b TEXT);\nIMPORT INTO t LINES 1;\n1,a\nSELECT * FROM t;\n";
+
+// A script whose query has an order.
+const ORDERED: &str =
+    "CREATE TABLE t (a INT, b TEXT);\nIMPORT INTO t LINES 2;\n2,b\n1,a\nSELECT * FROM t ORDER BY a;\n";
 
 #[test]
 fn scripts_are_answered(rt: HostRuntime) -> Result<(), Fail> {
     let cases = [
         ("", "history 0\n"),
+        (
+            ORDERED,
+            "session main\n1 ok @1 create t\n2 ok @2 import t chunk 1 rows 2\n3 rows @2 2\n1|'a'\n2|'b'\nhistory 2\n1 main 1 create t\n2 main 2 import t chunk 1 rows 2\n",
+        ),
         (
             FIRST,
             "session main\n1 ok @1 create t\n2 ok @2 import t chunk 1 rows 1\n3 rows @2 1\n1|'a'\nhistory 2\n1 main 1 create t\n2 main 2 import t chunk 1 rows 1\n",
@@ -112,11 +145,11 @@ fn scripts_are_answered(rt: HostRuntime) -> Result<(), Fail> {
 }
 
 #[test]
-fn statements_that_are_not_built_are_refused(rt: HostRuntime) -> Result<(), Fail> {
+fn statements_that_are_not_answered_are_refused(rt: HostRuntime) -> Result<(), Fail> {
     let script =
         "CREATE TABLE t (a INT, b TEXT);\nIMPORT INTO t LINES 1;\n1,a\nSELECT * FROM t;\nDROP TABLE t;\nCREATE TABLE t (a INT);\nIMPORT INTO t LINES 1;\n1\nSELECT * FROM u;\n";
     let report =
-        "session main\n1 ok @1 create t\n2 ok @2 import t chunk 1 rows 1\n3 rows @2 1\n1|'a'\n4 refused @2 unbuilt\n5 refused @2 unbuilt\n6 refused @2 unbuilt\n7 refused @2 unbuilt\nhistory 2\n1 main 1 create t\n2 main 2 import t chunk 1 rows 1\n";
+        "session main\n1 ok @1 create t\n2 ok @2 import t chunk 1 rows 1\n3 rows @2 1\n1|'a'\n4 refused @2 syntax 0\n5 refused @2 unbuilt\n6 refused @2 unbuilt\n7 refused @2 no-table 14\nhistory 2\n1 main 1 create t\n2 main 2 import t chunk 1 rows 1\n";
     let got = ran(rt.alloc(), &["run"], script, None, 100, None)?;
     assert_eq!(rt; got.status, Status::Fine);
     assert_eq!(rt; got.taken.as_slice(), report.as_bytes());
@@ -175,12 +208,14 @@ fn bytes_in_memory_are_answered(rt: HostRuntime) -> Result<(), Fail> {
 
 #[test]
 fn failing_sources_and_sinks_are_told(rt: HostRuntime) -> Result<(), Fail> {
-    let cut = ran(rt.alloc(), &["run"], FIRST, None, 10, Some(2))?;
-    assert_eq!(rt; cut.status, Status::SinkFault);
-    assert_eq!(rt; cut.taken.as_slice(), b"session ma".as_slice());
-    let unread = ran(rt.alloc(), &["run"], FIRST, Some(1), 10, None)?;
-    assert_eq!(rt; unread.status, Status::SourceFault);
-    assert_eq!(rt; unread.taken.as_slice(), b"".as_slice());
+    for script in [FIRST, ORDERED] {
+        let cut = ran(rt.alloc(), &["run"], script, None, 10, Some(2))?;
+        assert_eq!(rt; cut.status, Status::SinkFault);
+        assert_eq!(rt; cut.taken.as_slice(), b"session ma".as_slice());
+        let unread = ran(rt.alloc(), &["run"], script, Some(1), 10, None)?;
+        assert_eq!(rt; unread.status, Status::SourceFault);
+        assert_eq!(rt; unread.taken.as_slice(), b"".as_slice());
+    }
     Ok(())
 }
 

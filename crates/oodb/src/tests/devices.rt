@@ -1,5 +1,5 @@
 // Runs over devices that fail or rot, and over files in a folder. The reports that are wanted are written out, or made by a plain rule.
-use super::{FIRST, Taken, ran_over};
+use super::{FIRST, ORDERED, Taken, ran_over};
 use crate::status::Status;
 use hv_dev::{CleanDevice, Fail as FailedCall, FailKind, FileDevice, MemDevice, Rotten};
 use std::alloc::{AllocError, Global};
@@ -54,12 +54,13 @@ fn a_page_that_rots_is_told_for_its_statement_alone(rt: HostRuntime) -> Result<(
 
 #[test]
 fn a_write_that_fails_is_told_and_changes_nothing(rt: HostRuntime) -> Result<(), Fail> {
-    for kind in [FailKind::Write, FailKind::Seal] {
-        let mut device = failing(rt.alloc(), kind, 1)?;
-        let got = ran_over(rt.alloc(), FIRST, &mut device)?;
-        let report =
-            "session main\n1 ok @1 create t\n2 failed @1 write\n3 rows @1 0\nhistory 1\n1 main 1 create t\n";
-        meets(&rt, &got, Status::SomeFailed, report);
+    let report =
+        "session main\n1 ok @1 create t\n2 failed @1 write\n3 rows @1 0\nhistory 1\n1 main 1 create t\n";
+    for script in [FIRST, ORDERED] {
+        for kind in [FailKind::Write, FailKind::Seal] {
+            let got = ran_over(rt.alloc(), script, &mut failing(rt.alloc(), kind, 1)?)?;
+            meets(&rt, &got, Status::SomeFailed, report);
+        }
     }
     Ok(())
 }
@@ -68,6 +69,73 @@ fn a_write_that_fails_is_told_and_changes_nothing(rt: HostRuntime) -> Result<(),
 fn put_numbers(text: &mut Vec<u8>, alloc: Global, from: u32, to: u32) -> Result<(), Fail> {
     for number in from..=to {
         text.extend_from_slice(format!(in alloc; "{number}\n")?.as_bytes())?;
+    }
+    Ok(())
+}
+
+#[test]
+fn a_second_page_that_rots_is_told_by_its_number(rt: HostRuntime) -> Result<(), Fail> {
+    let alloc = rt.alloc();
+    let mut lines = Vec::new(alloc);
+    put_numbers(&mut lines, alloc, 1, 409)?;
+    let lines = str::from_utf8(lines.as_slice()).ok().ok_or("no text")?;
+    let script = format!(in alloc;
+        "CREATE TABLE t (a INT);\nIMPORT INTO t LINES 409;\n{lines}SELECT COUNT(*) FROM t;\nSELECT COUNT(*) FROM t;\n"
+    )?;
+    let got = ran_over(alloc, script.as_str(), &mut Rotten::new(0, 2, 20))?;
+    let report =
+        "session main\n1 ok @1 create t\n2 ok @2 import t chunk 1 rows 409\n3 failed @2 damaged 1 1\n4 rows @2 1\n409\nhistory 2\n1 main 1 create t\n2 main 2 import t chunk 1 rows 409\n";
+    meets(&rt, &got, Status::SomeFailed, report);
+    Ok(())
+}
+
+// A table of two rows, one of one row and one without a row.
+const TABLES: &str =
+    "CREATE TABLE t (a INT);\nCREATE TABLE u (b INT);\nCREATE TABLE e (c INT);\nIMPORT INTO t LINES 2;\n1\n2\nIMPORT INTO u LINES 1;\n3\nIMPORT INTO e LINES 0;\n";
+
+const TABLES_MADE: &str =
+    "session main\n1 ok @1 create t\n2 ok @2 create u\n3 ok @3 create e\n4 ok @4 import t chunk 1 rows 2\n5 ok @5 import u chunk 2 rows 1\n6 ok @6 import e chunk 3 rows 0\n";
+
+const TABLES_HISTORY: &str =
+    "history 6\n1 main 1 create t\n2 main 2 create u\n3 main 3 create e\n4 main 4 import t chunk 1 rows 2\n5 main 5 import u chunk 2 rows 1\n6 main 6 import e chunk 3 rows 0\n";
+
+// A query over two of them, twice.
+const JOINED: &str = "SELECT a, b FROM t, u ORDER BY a;\nSELECT a, b FROM t, u ORDER BY a;\n";
+
+#[test]
+fn a_query_one_of_whose_reads_fails_is_failed(rt: HostRuntime) -> Result<(), Fail> {
+    let alloc = rt.alloc();
+    // The read of the first query that fails, two queries, and their replies.
+    let cases = [
+        (1, JOINED, "7 failed @6 read\n8 rows @6 2\n1|3\n2|3\n"),
+        (2, JOINED, "7 failed @6 read\n8 rows @6 2\n1|3\n2|3\n"),
+        (
+            1,
+            "SELECT b FROM e, u;\nSELECT b FROM e, u;\n",
+            "7 failed @6 read\n8 rows @6 0\n",
+        ),
+        (
+            1,
+            "SELECT SUM(a) FROM t WHERE a > 2;\nSELECT SUM(a) FROM t WHERE a > 2;\n",
+            "7 failed @6 read\n8 refused @6 empty-aggregate\n",
+        ),
+        (
+            1,
+            "SELECT SUM(c) FROM e;\nSELECT SUM(a) FROM t;\n",
+            "7 refused @6 empty-aggregate\n8 failed @6 read\n",
+        ),
+        (
+            1,
+            "SELECT b FROM t;\nSELECT a FROM t ORDER BY a LIMIT 0;\n",
+            "7 refused @6 no-column 7\n8 failed @6 read\n",
+        ),
+    ];
+    for (nth, queries, replies) in cases {
+        let script = format!(in alloc; "{TABLES}{queries}")?;
+        let report = format!(in alloc; "{TABLES_MADE}{replies}{TABLES_HISTORY}")?;
+        let mut device = failing(alloc, FailKind::Read, nth)?;
+        let got = ran_over(alloc, script.as_str(), &mut device)?;
+        meets(&rt, &got, Status::SomeFailed, report.as_str());
     }
     Ok(())
 }

@@ -1,34 +1,12 @@
 // Cases on the rules of the script, each prefix of a script, and a source and a sink that fail at each call.
-use super::{FIRST, ran, ran_in_pieces};
+use super::{FIRST, meet, ran, ran_in_pieces, status_with};
 use crate::status::Status;
 use std::alloc::Global;
-use std::process::Abort;
 use std::test::Fail;
-
-// Runs each case: a script, a line `----`, and all that the run writes. A line `====` parts two cases.
-fn meet(rt: &impl Abort, alloc: Global, cases: &str) -> Result<(), Fail> {
-    for case in cases.split("====\n") {
-        let (script, written) = case.split_once("\n----\n").ok_or("a case without ----")?;
-        let status = status_with(written);
-        let got = ran(alloc, &["run"], script, None, 100, None)?;
-        assert_eq!(rt; got.status, status, "{script}");
-        assert_eq!(rt; got.taken.as_slice(), written.as_bytes(), "{script}");
-    }
-    Ok(())
-}
-
-// The status of a run that writes this.
-fn status_with(written: &str) -> Status {
-    if written.starts_with("fault ") {
-        Status::Script
-    } else {
-        Status::Fine
-    }
-}
 
 #[test]
 fn scripts_are_cut_by_the_rules(rt: HostRuntime) -> Result<(), Fail> {
-    for cases in [STATEMENTS, DATA, COUNTS, FAULTS, UNBUILT, NAMES] {
+    for cases in [STATEMENTS, DATA, COUNTS, UNBUILT, NAMES] {
         meet(&rt, rt.alloc(), cases)?;
     }
     Ok(())
@@ -56,7 +34,7 @@ history 0
 ;
 ----
 session main
-1 refused @0 unbuilt
+1 refused @0 no-table 14
 history 0
 ====
 CREATE TABLE t (a INT) \t\r\n;SELECT * FROM t \n;
@@ -70,35 +48,35 @@ history 1
 SELECT 'a;b';SELECT ';';SELECT a'b;c'd;
 ----
 session main
-1 refused @0 unbuilt
-2 refused @0 unbuilt
-3 refused @0 unbuilt
+1 refused @0 syntax 7
+2 refused @0 syntax 7
+3 refused @0 syntax 8
 history 0
 ====
 SELECT 'a'';b';SELECT '''';SELECT '';SELECT ''';''';
 ----
 session main
-1 refused @0 unbuilt
-2 refused @0 unbuilt
-3 refused @0 unbuilt
-4 refused @0 unbuilt
+1 refused @0 syntax 7
+2 refused @0 syntax 7
+3 refused @0 syntax 7
+4 refused @0 syntax 7
 history 0
 ====
 SELECT \"a;b\";-- a;
 ----
 session main
-1 refused @0 unbuilt
-2 refused @0 unbuilt
-3 refused @0 unbuilt
+1 refused @0 syntax 7
+2 refused @0 syntax 0
+3 refused @0 syntax 0
 history 0
 ====
 \x0b;\x0c;\0;\u{a0};
 ----
 session main
-1 refused @0 unbuilt
-2 refused @0 unbuilt
-3 refused @0 unbuilt
-4 refused @0 unbuilt
+1 refused @0 syntax 0
+2 refused @0 syntax 0
+3 refused @0 syntax 0
+4 refused @0 syntax 0
 history 0
 ";
 
@@ -246,7 +224,7 @@ session main
 4 ok @2 import t chunk 1 rows 1
 5 rows @2 1
 5
-6 refused @2 unbuilt
+6 refused @2 no-table 14
 history 2
 1 main 1 create t
 2 main 4 import t chunk 1 rows 1
@@ -293,63 +271,16 @@ history 3
 2 main 2 import t chunk 1 rows 2
 3 main 3 import t chunk 2 rows 1
 ====
-CREATE TABLE t (a INT);IMPORT INTO t LINES 99999999999999999999;
-7
-;SELECT * FROM t;
-----
-session main
-1 ok @1 create t
-2 refused @1 unbuilt
-3 refused @1 unbuilt
-4 rows @1 0
-history 1
-1 main 1 create t
-====
-CREATE TABLE t (a INT);IMPORT INTO t LINES 18446744073709551617;
-7
-;SELECT * FROM t;
-----
-session main
-1 ok @1 create t
-2 refused @1 unbuilt
-3 refused @1 unbuilt
-4 rows @1 0
-history 1
-1 main 1 create t
-====
-CREATE TABLE t (a INT);IMPORT INTO t LINES 4294967297;
-7
-;SELECT * FROM t;
-----
-session main
-1 ok @1 create t
-2 refused @1 unbuilt
-3 refused @1 unbuilt
-4 rows @1 0
-history 1
-1 main 1 create t
-====
-CREATE TABLE t (a INT);IMPORT INTO t LINES 1000001;
-7;SELECT * FROM t;
-----
-session main
-1 ok @1 create t
-2 refused @1 unbuilt
-3 refused @1 unbuilt
-4 rows @1 0
-history 1
-1 main 1 create t
-====
 CREATE TABLE t (a INT);IMPORT INTO t LINES 1 2;7;IMPORT INTO t LINES -1;7;IMPORT INTO t LINES 1a;7;
 ----
 session main
 1 ok @1 create t
-2 refused @1 unbuilt
-3 refused @1 unbuilt
-4 refused @1 unbuilt
-5 refused @1 unbuilt
-6 refused @1 unbuilt
-7 refused @1 unbuilt
+2 refused @1 syntax 22
+3 refused @1 syntax 0
+4 refused @1 syntax 20
+5 refused @1 syntax 0
+6 refused @1 syntax 21
+7 refused @1 syntax 0
 history 1
 1 main 1 create t
 ====
@@ -357,81 +288,18 @@ CREATE TABLE t (a INT);IMPORT INTO t LINES1;7;IMPORT INTO t LINES;7;IMPORT INTO 
 ----
 session main
 1 ok @1 create t
-2 refused @1 unbuilt
-3 refused @1 unbuilt
-4 refused @1 unbuilt
-5 refused @1 unbuilt
-6 refused @1 unbuilt
-7 refused @1 unbuilt
+2 refused @1 syntax 14
+3 refused @1 syntax 0
+4 refused @1 syntax 19
+5 refused @1 syntax 0
+6 refused @1 syntax 12
+7 refused @1 syntax 0
 history 1
 1 main 1 create t
 ";
 
-const FAULTS: &str = " \n;SELECT 'a;b
-----
-fault unended 3
-====
-SELECT 'a'';;
-----
-fault unended 0
-====
-DROP TABLE t;
-SELECT * FROM t
-----
-fault unended 14
-====
-CREATE TABLE t (a INT);SELECT * FROM t;  SELECT * FROM t
-----
-fault unended 41
-====
-SELECT 1;IMPORT INTO t LINES 1
-7
-----
-fault unended 9
-====
-é; x
-----
-fault unended 4
-====
-CREATE TABLE t (a INT);
-IMPORT INTO t LINES 1;
-7
-IMPORT INTO t LINES 2;
-8
-----
-fault short-import 49
-====
-IMPORT INTO t LINES 3;
-7
-SELECT * FROM
-----
-fault short-import 0
-====
-SELECT 1;IMPORT INTO u LINES 1;
-----
-fault short-import 9
-====
-SELECT 1;IMPORT INTO u LINES 1; \t\r
-
-----
-fault short-import 9
-====
-SELECT 1;IMPORT INTO u LINES 1000000;7;
-----
-fault short-import 9
-";
-
-const UNBUILT: &str = "CREATE TABLE t (a INT);BARRIER;SESSION x;SELECT * FROM t;
-----
-session main
-1 ok @1 create t
-2 refused @1 unbuilt
-3 refused @1 unbuilt
-4 rows @1 0
-history 1
-1 main 1 create t
-====
-CREATE TABLE t (a INT);SELECT a FROM t;SELECT * FROM t, t;SELECT * FROM t u;SELECT * FROM t LIMIT 1;
+const UNBUILT: &str =
+    "CREATE TABLE t (a INT);BARRIER;SESSION x;PURGE CHUNK 1 OF t;MERGE CHUNKS 1, 2 OF t;SELECT * FROM t;
 ----
 session main
 1 ok @1 create t
@@ -439,18 +307,32 @@ session main
 3 refused @1 unbuilt
 4 refused @1 unbuilt
 5 refused @1 unbuilt
+6 rows @1 0
 history 1
 1 main 1 create t
+====
+BARRIER 2;SESSION;PURGE CHUNK 1, 2 OF t;MERGE CHUNKS 1 OF t;PURGE CHUNK 1 OF t;MERGE CHUNKS 1, 1 OF t;DROP TABLE t;
+----
+session main
+1 refused @0 syntax 8
+2 refused @0 syntax 7
+3 refused @0 syntax 13
+4 refused @0 syntax 15
+5 refused @0 unbuilt
+6 refused @0 unbuilt
+7 refused @0 syntax 0
+history 0
 ====
 CREATE TABLE t (a INT INDEX);CREATE TABLE t (a TEXT RANGE);CREATE TABLE t ();CREATE TABLE t (a);CREATE TABLE t (a INT,);
 ----
 session main
-1 refused @0 unbuilt
-2 refused @0 unbuilt
-3 refused @0 unbuilt
-4 refused @0 unbuilt
-5 refused @0 unbuilt
-history 0
+1 ok @1 create t
+2 refused @1 unbuilt
+3 refused @1 syntax 16
+4 refused @1 syntax 17
+5 refused @1 syntax 22
+history 1
+1 main 1 create t
 ====
 CREATE TABLE t (a INT, b TEXT, a TEXT);CREATE TABLE t (a INT, A TEXT);
 ----
@@ -486,11 +368,13 @@ SELECT * FROM t;
 ----
 session main
 1 ok @1 create t
-2 refused @1 unbuilt
-3 refused @1 unbuilt
-4 rows @1 0
-history 1
+2 ok @2 import t chunk 1 rows 1
+3 refused @2 unbuilt
+4 rows @2 1
+'é'
+history 2
 1 main 1 create t
+2 main 2 import t chunk 1 rows 1
 ====
 CREATE TABLE t (a INT);IMPORT INTO t LINES 1;
 9223372036854775808
@@ -550,7 +434,7 @@ session main
 2 ok @2 import t chunk 1 rows 1
 3 rows @2 1
 7|'x'
-4 refused @2 unbuilt
+4 refused @2 no-table 14
 history 2
 1 main 1 create t
 2 main 2 import t chunk 1 rows 1
@@ -559,11 +443,11 @@ CREATE TABLE count (a INT);CREATE TABLE t (Index INT);SELECT * FROM max;IMPORT I
 7;
 ----
 session main
-1 refused @0 unbuilt
-2 refused @0 unbuilt
-3 refused @0 unbuilt
-4 refused @0 unbuilt
-5 refused @0 unbuilt
+1 refused @0 syntax 13
+2 refused @0 syntax 16
+3 refused @0 syntax 14
+4 refused @0 syntax 12
+5 refused @0 syntax 0
 history 0
 ====
 CREATE TABLE counts (as_ INT, _ TEXT, drop TEXT);SELECT * FROM counts;
@@ -589,31 +473,31 @@ CREATE TABLE abcdefghijklmnopqrstuvwxyz01234 (a INT);IMPORT INTO abcdefghijklmno
 7;CREATE TABLE t (abcdefghijklmnopqrstuvwxyz01234 INT);
 ----
 session main
-1 refused @0 unbuilt
-2 refused @0 unbuilt
-3 refused @0 unbuilt
-4 refused @0 unbuilt
+1 refused @0 syntax 13
+2 refused @0 syntax 12
+3 refused @0 syntax 0
+4 refused @0 syntax 16
 history 0
 ====
 CREATE TABLE é (a INT);CREATE TABLE té (a INT);SELECT 'é;';IMPORT INTO é LINES 1;
 7;
 ----
 session main
-1 refused @0 unbuilt
-2 refused @0 unbuilt
-3 refused @0 unbuilt
-4 refused @0 unbuilt
-5 refused @0 unbuilt
+1 refused @0 syntax 13
+2 refused @0 syntax 14
+3 refused @0 syntax 7
+4 refused @0 syntax 12
+5 refused @0 syntax 0
 history 0
 ====
 CREATE TABLE 1t (a INT);CREATE TABLE t.u (a INT);CREATE TABLE 't' (a INT);CREATETABLE t (a INT);CREATE TABLE t(a INT)
 ;
 ----
 session main
-1 refused @0 unbuilt
-2 refused @0 unbuilt
-3 refused @0 unbuilt
-4 refused @0 unbuilt
+1 refused @0 syntax 13
+2 refused @0 syntax 14
+3 refused @0 syntax 13
+4 refused @0 syntax 0
 5 ok @1 create t
 history 1
 1 main 5 create t

@@ -7,7 +7,8 @@ abbrev pub invariant-loop-alloc : goal.invariant-loop-alloc
 invariant-loop-alloc l = record {
   read : Statements l.bytes 1 l.statements l.rest;
   counted : l.number ≡ length l.statements + 1;
-  room : length l.statements + length l.rest ≤ length l.bytes;
+  few : length l.statements ≤ 1000000;
+  room : length l.rest ≤ length l.bytes;
 }
 
 abbrev pub decreases-loop-alloc : goal.decreases-loop-alloc

@@ -1,6 +1,7 @@
 -- The laws, part by part.
 use Rattle.hv_sql.proofs.KindNumbers.{kinds_apart}
 use Rattle.hv_sql.proofs.OneReading.{one_tree, trees_sound, trees_complete, faults_sound, faults_complete, one_fault, no_fault_too}
+use Rattle.hv_sql.proofs.Grouped.{one_place}
 use Rattle.hv_sql.proofs.law.grammar_laws.Goals as goal
 
 pub returns : goal.returns
@@ -13,4 +14,5 @@ returns c = record {
   tells = faults_complete;
   fault = one_fault;
   both = no_fault_too;
+  one_place = one_place;
 }

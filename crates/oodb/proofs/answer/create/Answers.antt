@@ -13,7 +13,7 @@ returns-clause-settles g c max =
     let before = database_of c.args.store.now in
     let new = database_of c.create_table.new.self in
     let schema : IsSchema c.args.columns = search rules in
-    let steps : step before (Create c.args.table c.args.columns) ≡ Ok new = search rules in
+    let steps : step before (Create c.args.table.name c.args.columns) ≡ Ok new = search rules in
     rw c.done.ensures (commits_create c.args.statement.now before new c.args.table c.args.columns c.args.history.now.items c.commit.new.history.items
     (record { session = c.in_ok-copy-2.field-0; number = c.args.statement.now.number; what = detail.Create c.in_ok-copy-3.field-0 })
     c.create_table.new.self.length (detail.Create c.in_ok-copy.field-0)

@@ -1,5 +1,5 @@
 -- The table takes a chunk, and the data spells rows under its schema.
-use Rattle.std.proofs.Common.{sym, ◌≡◌, ◌≤◌, true, false, rules}
+use Rattle.std.proofs.Common.{sym, ◌≡◌, true, false, rules}
 use Rattle.std.specs.Option.{is_some}
 use Rattle.hv_model.specs.Import.{rows_of}
 use Rattle.oodb.proofs.StoreChanges.{stands_at}
@@ -10,8 +10,7 @@ pub returns : goal.returns
 returns g c =
     let s = c.args.store.now in
     let t = c.index.result.now in
-    let few : c.args.lines ≤ 1000000 = c.if-lines-gt-MAX_IMPORT_LINES.false in
     let spells : is_some (rows_of t.schema c.args.statement.now.lines) ≡ true = search rules in
     let free : is_some c.import_refusal.result ≡ false = search rules in
-    imports_of c.args.statement.now c.args.table.now s c.in-Some.at c.args.lines t c.import_refusal.result c.requires.is few (sym c.in-Some.ensures.number)
+    imports_of c.args.statement.now c.args.table.now s c.in-Some.at c.requires.is.0 t c.import_refusal.result c.requires.is.1 (sym c.in-Some.ensures.number)
     (stands_at s.tables.items c.in-Some.at t c.in-Some.ensures.within c.index.ensures) spells c.import_refusal.ensures free

@@ -1,5 +1,5 @@
 use Rattle.std.proofs.Common.{take}
-use Rattle.oodb.specs.RowsOut.{AddsRows}
+use Rattle.oodb.specs.RowsRead.{AddsRows}
 use Rattle.oodb.proofs.pages.push_rows.Given as goal
 
 -- the rows of the first slots went behind those of before

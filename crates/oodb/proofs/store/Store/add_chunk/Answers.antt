@@ -1,5 +1,6 @@
 -- one table has one chunk more
 use Rattle.std.proofs.Common.{◌≡◌, ◌<◌, ◌≤◌, ◌+◌, length, refl, arith}
+use Rattle.std.proofs.lemmas.List.{length-set}
 use Rattle.hv_model.specs.Database.{import_refusal}
 use Rattle.oodb.specs.Stored.{table_of, database_of}
 use Rattle.oodb.proofs.StoreChanges.{some_within, some_is, stands_at, step_import, sound_more}
@@ -23,4 +24,5 @@ returns-clause-sound g c =
       tables = sound_more _ _ s.tables.items c.args.at t (record t { chunks = c.push_reserved.new.self }) (record { number = s.made + 1; chunk = c.args.chunk }) within c.index_mut.ensures.value
           c.requires.sound.tables (some_is _ _ t stands c.requires.built) refl c.push_reserved.ensures.items;
       made = (let h : s.made ≤ s.length = c.requires.sound.made in omega arith);
+      count = (let h : length s.tables.items ≤ s.length = c.requires.sound.count in omega (arith, length-set s.tables.items c.args.at (record t { chunks = c.push_reserved.new.self })));
     }

@@ -1,5 +1,6 @@
 -- the chunks are the same ones in more memory
 use Rattle.std.proofs.Common.{List, map, refl, ap}
+use Rattle.std.proofs.lemmas.List.{length-set}
 use Rattle.hv_model.specs.declared.catalogue.Table.{Table}
 use Rattle.oodb.specs.Stored.{chunk_of}
 use Rattle.oodb.proofs.StoreChanges.{database_same, sound_same}
@@ -16,4 +17,5 @@ returns-clause-sound g c = record {
   tables = sound_same _ _ c.args.self.now.tables.items c.args.at c.index_mut.result.now (record c.index_mut.result.now { chunks = c.reserve.new.self }) c.requires.within c.index_mut.ensures.value
       c.requires.sound.tables refl c.reserve.ensures.items;
   made = c.requires.sound.made;
+  count = rw (length-set c.args.self.now.tables.items c.args.at (record c.index_mut.result.now { chunks = c.reserve.new.self })) c.requires.sound.count;
 }
