@@ -1,48 +1,48 @@
 // A buffer before a sink.
-ghost use Rattle.std.specs.Prelude.{◌≡◌, ℕ, ◌+◌, ◌≤◌, List, [], ◌++◌, length, Ok, IfOk, OnOk, OnErr, IfErr, IsOk, IsTrue, ◌↔◌};
+ghost use Rattle.std.specs.Prelude.{◌≡◌, ℕ, ◌+◌, ◌≤◌, List, [], ◌++◌, length, OnOk, OnErr, IfErr, IsOk, IsTrue, ◌↔◌};
 ghost use Rattle.hv_io.specs.Bytes.{Seen, seen};
 ghost use Rattle.hv_io.specs.Printing.{HasPrinted, Printing, Prints, blank};
 ghost use Rattle.hv_io.specs.Putting.{TookAll, Stopped};
 
 use crate::sink::Sink;
 use crate::writing::{PutAll, put};
-use std::alloc::{AllocError, Global};
 use std::marker::Model;
 
 /// How many bytes a printer hands over at a time.
 pub const PIECE_BYTES: usize = 16384;
 
-/// A buffer before a sink that each call is passed: it takes its memory once, and hands over `PIECE_BYTES` at a time.
+/// A buffer on the stack before a sink that each call is passed: it hands over `PIECE_BYTES` at a time. No call takes memory.
 #[derive(Drop)]
 pub struct Printer {
-    pending: Vec<u8>,
+    bytes: [u8; PIECE_BYTES],
+    held: usize,
     outcome: Result<(), PutAll>,
 }
 
 impl Model for Printer {
-    ghost use Rattle.std.specs.Prelude.{◌≤◌, vec_len, vec_capacity};
+    ghost use Rattle.std.specs.Prelude.{◌≡◌, ◌≤◌, length, take};
     ghost use Rattle.hv_io.specs.Printing.{Printing};
 
     ghost Value = { Printing };
 
-    ghost view = { λ it. record { pending = it.pending.items; outcome = it.outcome } };
+    ghost view = { λ it. record { pending = take it.held it.bytes; outcome = it.outcome } };
 
-    ghost invariant = { λ it. (vec_len it.pending ≤ 16384) × (16384 ≤ vec_capacity it.pending) };
+    ghost invariant = { λ it. (it.held ≤ 16384) × (length it.bytes ≡ 16384) };
 }
 
 impl Printer {
-    /// An empty printer, with the memory for all that it will hold back.
-    pub fn new(alloc: Global) -> Result<Printer, AllocError>
-        ensures blank { IfOk result (λ printer. printer ≡ blank) }
-        ensures start { IfOk result (λ printer. (start : Seen) → HasPrinted start [] start printer) }
+    /// An empty printer.
+    pub fn new() -> Printer
+        ensures { result ≡ blank }
     {
-        Ok(Printer {
-            pending: Vec::with_capacity(alloc, PIECE_BYTES)?,
+        Printer {
+            bytes: [0; PIECE_BYTES],
+            held: 0,
             outcome: Ok(()),
-        })
+        }
     }
 
-    /// Puts bytes behind what was put before. After a fault of the sink nothing more is handed over. Takes no memory.
+    /// Puts bytes behind what was put before. After a fault of the sink nothing more is handed over.
     pub fn put<K: Sink>(&mut self, out: &mut K, bytes: &[u8])
         ensures prints { Prints bytes.now (seen K.taken K.faults K.zeros out.old) self.old (seen K.taken K.faults K.zeros out.new) self.new }
         ensures stays { OnErr self.old.outcome (seen K.taken K.faults K.zeros out.new ≡ seen K.taken K.faults K.zeros out.old) }
@@ -59,7 +59,7 @@ impl Printer {
         }
     }
 
-    /// Hands over what was held back, and tells what became of all that was put. Takes no memory.
+    /// Hands over what was held back, and tells what became of all that was put.
     pub fn finish<K: Sink>(self, out: &mut K) -> Result<(), PutAll>
         ensures all { (start : Seen) (text : List ℕ) → HasPrinted start text (seen K.taken K.faults K.zeros out.old) self → OnOk result (TookAll start text (seen K.taken K.faults K.zeros out.new)) }
         ensures part { (start : Seen) (text : List ℕ) → HasPrinted start text (seen K.taken K.faults K.zeros out.old) self → IfErr result (λ cause. Stopped start text (seen K.taken K.faults K.zeros out.new) cause) }
@@ -92,7 +92,7 @@ impl Printer {
     fn room(&self) -> usize
         ensures { result + length self.now.pending ≡ 16384 }
     {
-        PIECE_BYTES - self.pending.len()
+        PIECE_BYTES - self.held
     }
 
     // Holds bytes back, for which there is room.
@@ -100,7 +100,9 @@ impl Printer {
         requires { length self.old.pending + length bytes.now ≤ 16384 }
         ensures { self.new ≡ record self.old { pending = self.old.pending ++ bytes.now } }
     {
-        let _ = self.pending.extend_from_slice(bytes);
+        let end = self.held + bytes.len();
+        self.bytes[self.held..end].copy_from_slice(bytes);
+        self.held = end;
     }
 
     // Hands over what was held back.
@@ -109,7 +111,7 @@ impl Printer {
         ensures held { self.new.pending ≡ [] }
         ensures prints { (start : Seen) (text : List ℕ) → HasPrinted start text (seen K.taken K.faults K.zeros out.old) self.old → HasPrinted start text (seen K.taken K.faults K.zeros out.new) self.new }
     {
-        self.outcome = put(out, self.pending.as_slice());
-        self.pending.clear();
+        self.outcome = put(out, &self.bytes[..self.held]);
+        self.held = 0;
     }
 }

@@ -92,7 +92,7 @@ fn put_pair<K: Sink>(printer: &mut Printer, out: &mut K, name: &[u8], value: &[u
 #[test]
 fn a_caller_of_a_printer_prints(rt: HostRuntime) -> Result<(), Fail> {
     let mut sink = MemSink::new(rt.alloc(), 5, None);
-    let mut printer = Printer::new(rt.alloc())?;
+    let mut printer = Printer::new();
     put_pair(&mut printer, &mut sink, b"rows", b"12");
     put_pair(&mut printer, &mut sink, b"pages", b"3");
     assert_eq!(rt; printer.finish(&mut sink), Ok(()));
@@ -104,7 +104,7 @@ fn a_caller_of_a_printer_prints(rt: HostRuntime) -> Result<(), Fail> {
 fn a_printer_keeps_the_order(rt: HostRuntime) -> Result<(), Fail> {
     let long = [b'x'; 20000];
     let mut sink = MemSink::new(rt.alloc(), 5000, None);
-    let mut printer = Printer::new(rt.alloc())?;
+    let mut printer = Printer::new();
     printer.put(&mut sink, b"a");
     printer.put(&mut sink, &long);
     printer.put(&mut sink, b"z");
@@ -120,7 +120,7 @@ fn a_printer_keeps_the_order(rt: HostRuntime) -> Result<(), Fail> {
 #[test]
 fn a_printer_stops_at_a_fault(rt: HostRuntime) -> Result<(), Fail> {
     let mut sink = MemSink::new(rt.alloc(), 10, Some(2));
-    let mut printer = Printer::new(rt.alloc())?;
+    let mut printer = Printer::new();
     printer.put(&mut sink, b"hello, ");
     printer.put(&mut sink, &[b'x'; 20000]);
     printer.put(&mut sink, b"lost");

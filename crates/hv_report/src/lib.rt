@@ -3,7 +3,6 @@
 
 mod law;
 mod report;
-mod stack_printer;
 #[cfg(test)]
 mod tests;
 mod writing;

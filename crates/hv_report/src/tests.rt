@@ -298,16 +298,16 @@ impl Sink for Pieces {
 #[test]
 fn a_long_report_is_told_in_pieces(rt: HostRuntime) -> Result<(), Fail> {
     let alloc = rt.alloc();
-    let long = [b'x'; 5000];
+    let long = [b'x'; 20000];
     let mut rows = OutRows::with_capacity(alloc, 2)?;
     rows.push(row(alloc, 1, &long)?)?;
     rows.push(row(alloc, 2, &long)?)?;
     let told = report_on(alloc, Reply::Rows { at: 0, rows })?;
     let len = bytes_of(alloc, &told).len();
     for (left, want, bytes, last) in [
-        (9, Ok(()), len, len.saturating_sub(2 * 4096)),
-        (3, Ok(()), len, len.saturating_sub(2 * 4096)),
-        (2, Err(PutAll::Zero), 2 * 4096, 4096),
+        (9, Ok(()), len, len.saturating_sub(2 * 16384)),
+        (3, Ok(()), len, len.saturating_sub(2 * 16384)),
+        (2, Err(PutAll::Zero), 2 * 16384, 16384),
         (0, Err(PutAll::Zero), 0, 0),
     ] {
         let mut sink = Pieces {

@@ -8,8 +8,7 @@ ghost use Rattle.hv_model.specs.Report.{cell_text, detail_text, entries_text, en
 ghost use Rattle.hv_report.specs.Text.{names_of, replies_of, stats_text, text_of};
 
 use crate::report::{Report, SessionReport, Stats};
-use crate::stack_printer::StackPrinter;
-use hv_io::{PutAll, Sink};
+use hv_io::{Printer, PutAll, Sink};
 use hv_model::{Cell, Detail, Entry, Failure, OutRow, Refusal, Reply};
 use itoa::{Buffer, Integer};
 
@@ -18,12 +17,12 @@ pub fn write_report<K: Sink>(out: &mut K, report: &Report) -> Result<(), PutAll>
     ensures all { OnOk result (TookAll (seen K.taken K.faults K.zeros out.old) (text_of report.now) (seen K.taken K.faults K.zeros out.new)) }
     ensures part { IfErr result (λ cause. Stopped (seen K.taken K.faults K.zeros out.old) (text_of report.now) (seen K.taken K.faults K.zeros out.new) cause) }
 {
-    let mut printer = StackPrinter::new();
+    let mut printer = Printer::new();
     print_report(&mut printer, out, report);
-    printer.end(out)
+    printer.finish(out)
 }
 
-fn print_report<K: Sink>(printer: &mut StackPrinter, out: &mut K, report: &Report)
+fn print_report<K: Sink>(printer: &mut Printer, out: &mut K, report: &Report)
     ensures { Prints (text_of report.now) (seen K.taken K.faults K.zeros out.old) printer.old (seen K.taken K.faults K.zeros out.new) printer.new }
 {
     print_sessions(printer, out, report.sessions.as_slice());
@@ -34,7 +33,7 @@ fn print_report<K: Sink>(printer: &mut StackPrinter, out: &mut K, report: &Repor
 }
 
 // The sessions in order of naming.
-fn print_sessions<K: Sink>(printer: &mut StackPrinter, out: &mut K, sessions: &[SessionReport])
+fn print_sessions<K: Sink>(printer: &mut Printer, out: &mut K, sessions: &[SessionReport])
     ensures { Prints (sessions_text (names_of sessions.now) (replies_of sessions.now)) (seen K.taken K.faults K.zeros out.old) printer.old (seen K.taken K.faults K.zeros out.new) printer.new }
 {
     for session in sessions {
@@ -48,7 +47,7 @@ fn print_sessions<K: Sink>(printer: &mut StackPrinter, out: &mut K, sessions: &[
 }
 
 // A session; nothing where it has no reply.
-fn print_session<K: Sink>(printer: &mut StackPrinter, out: &mut K, name: &[u8], replies: &[Reply])
+fn print_session<K: Sink>(printer: &mut Printer, out: &mut K, name: &[u8], replies: &[Reply])
     ensures { Prints (session_text name.now replies.now) (seen K.taken K.faults K.zeros out.old) printer.old (seen K.taken K.faults K.zeros out.new) printer.new }
 {
     if replies.is_empty() {
@@ -61,7 +60,7 @@ fn print_session<K: Sink>(printer: &mut StackPrinter, out: &mut K, name: &[u8], 
 }
 
 // The replies of a session, numbered from 1.
-fn print_replies<K: Sink>(printer: &mut StackPrinter, out: &mut K, replies: &[Reply])
+fn print_replies<K: Sink>(printer: &mut Printer, out: &mut K, replies: &[Reply])
     ensures { Prints (replies_text 1 replies.now) (seen K.taken K.faults K.zeros out.old) printer.old (seen K.taken K.faults K.zeros out.new) printer.new }
 {
     for (i, reply) in replies.iter().enumerate() {
@@ -70,7 +69,7 @@ fn print_replies<K: Sink>(printer: &mut StackPrinter, out: &mut K, replies: &[Re
 }
 
 // The reply to the statement of this number.
-fn print_reply<K: Sink>(printer: &mut StackPrinter, out: &mut K, number: usize, reply: &Reply)
+fn print_reply<K: Sink>(printer: &mut Printer, out: &mut K, number: usize, reply: &Reply)
     ensures { Prints (reply_text number reply.now) (seen K.taken K.faults K.zeros out.old) printer.old (seen K.taken K.faults K.zeros out.new) printer.new }
 {
     match reply {
@@ -99,13 +98,7 @@ fn print_reply<K: Sink>(printer: &mut StackPrinter, out: &mut K, number: usize, 
 }
 
 // What every reply begins with: the statement's number, a word between blanks, and a length of the history.
-fn print_outcome<K: Sink>(
-    printer: &mut StackPrinter,
-    out: &mut K,
-    number: usize,
-    word: &[u8],
-    at: u32,
-)
+fn print_outcome<K: Sink>(printer: &mut Printer, out: &mut K, number: usize, word: &[u8], at: u32)
     ensures { Prints (decimal number ++ word.now ++ decimal at ++ codes " ") (seen K.taken K.faults K.zeros out.old) printer.old (seen K.taken K.faults K.zeros out.new) printer.new }
 {
     print_number(printer, out, number);
@@ -114,7 +107,7 @@ fn print_outcome<K: Sink>(
     printer.put(out, b" ");
 }
 
-fn print_refusal<K: Sink>(printer: &mut StackPrinter, out: &mut K, cause: Refusal)
+fn print_refusal<K: Sink>(printer: &mut Printer, out: &mut K, cause: Refusal)
     ensures { Prints (refusal_text cause) (seen K.taken K.faults K.zeros out.old) printer.old (seen K.taken K.faults K.zeros out.new) printer.new }
 {
     match cause {
@@ -133,14 +126,14 @@ fn print_refusal<K: Sink>(printer: &mut StackPrinter, out: &mut K, cause: Refusa
 }
 
 // A word and a number.
-fn print_numbered<K: Sink>(printer: &mut StackPrinter, out: &mut K, word: &[u8], number: u32)
+fn print_numbered<K: Sink>(printer: &mut Printer, out: &mut K, word: &[u8], number: u32)
     ensures { Prints (word.now ++ decimal number) (seen K.taken K.faults K.zeros out.old) printer.old (seen K.taken K.faults K.zeros out.new) printer.new }
 {
     printer.put(out, word);
     print_number(printer, out, number);
 }
 
-fn print_failure<K: Sink>(printer: &mut StackPrinter, out: &mut K, cause: Failure)
+fn print_failure<K: Sink>(printer: &mut Printer, out: &mut K, cause: Failure)
     ensures { Prints (failure_text cause) (seen K.taken K.faults K.zeros out.old) printer.old (seen K.taken K.faults K.zeros out.new) printer.new }
 {
     match cause {
@@ -160,7 +153,7 @@ fn print_failure<K: Sink>(printer: &mut StackPrinter, out: &mut K, cause: Failur
     }
 }
 
-fn print_rows<K: Sink>(printer: &mut StackPrinter, out: &mut K, rows: &[OutRow])
+fn print_rows<K: Sink>(printer: &mut Printer, out: &mut K, rows: &[OutRow])
     ensures { Prints (flat_map row_line rows.now) (seen K.taken K.faults K.zeros out.old) printer.old (seen K.taken K.faults K.zeros out.new) printer.new }
 {
     for row in rows {
@@ -169,7 +162,7 @@ fn print_rows<K: Sink>(printer: &mut StackPrinter, out: &mut K, rows: &[OutRow])
 }
 
 // A row, with its line feed.
-fn print_row<K: Sink>(printer: &mut StackPrinter, out: &mut K, cells: &[Cell])
+fn print_row<K: Sink>(printer: &mut Printer, out: &mut K, cells: &[Cell])
     ensures { Prints (row_line cells.now) (seen K.taken K.faults K.zeros out.old) printer.old (seen K.taken K.faults K.zeros out.new) printer.new }
 {
     if let Some((first, more)) = cells.split_first() {
@@ -180,7 +173,7 @@ fn print_row<K: Sink>(printer: &mut StackPrinter, out: &mut K, cells: &[Cell])
 }
 
 // Cells behind a first one.
-fn print_more_cells<K: Sink>(printer: &mut StackPrinter, out: &mut K, cells: &[Cell])
+fn print_more_cells<K: Sink>(printer: &mut Printer, out: &mut K, cells: &[Cell])
     ensures { Prints (flat_map (λ cell. codes "|" ++ cell_text cell) cells.now) (seen K.taken K.faults K.zeros out.old) printer.old (seen K.taken K.faults K.zeros out.new) printer.new }
 {
     for cell in cells {
@@ -189,7 +182,7 @@ fn print_more_cells<K: Sink>(printer: &mut StackPrinter, out: &mut K, cells: &[C
     }
 }
 
-fn print_cell<K: Sink>(printer: &mut StackPrinter, out: &mut K, cell: &Cell)
+fn print_cell<K: Sink>(printer: &mut Printer, out: &mut K, cell: &Cell)
     ensures { Prints (cell_text cell.now) (seen K.taken K.faults K.zeros out.old) printer.old (seen K.taken K.faults K.zeros out.new) printer.new }
 {
     match cell {
@@ -203,7 +196,7 @@ fn print_cell<K: Sink>(printer: &mut StackPrinter, out: &mut K, cell: &Cell)
 }
 
 // A text whose quotes are written twice: each run up to a quote is put with it, and the quote again.
-fn print_quoted<K: Sink>(printer: &mut StackPrinter, out: &mut K, text: &[u8])
+fn print_quoted<K: Sink>(printer: &mut Printer, out: &mut K, text: &[u8])
     ensures { Prints (flat_map quoted_byte text.now) (seen K.taken K.faults K.zeros out.old) printer.old (seen K.taken K.faults K.zeros out.new) printer.new }
 {
     let mut rest = text;
@@ -224,7 +217,7 @@ fn quote_place(text: &[u8]) -> Option<usize>
     text.iter().position(|byte| *byte == b'\'')
 }
 
-fn print_history<K: Sink>(printer: &mut StackPrinter, out: &mut K, history: &[Entry])
+fn print_history<K: Sink>(printer: &mut Printer, out: &mut K, history: &[Entry])
     ensures { Prints (history_text history.now) (seen K.taken K.faults K.zeros out.old) printer.old (seen K.taken K.faults K.zeros out.new) printer.new }
 {
     printer.put(out, b"history ");
@@ -234,7 +227,7 @@ fn print_history<K: Sink>(printer: &mut StackPrinter, out: &mut K, history: &[En
 }
 
 // The entries of a history, numbered from 1.
-fn print_entries<K: Sink>(printer: &mut StackPrinter, out: &mut K, history: &[Entry])
+fn print_entries<K: Sink>(printer: &mut Printer, out: &mut K, history: &[Entry])
     ensures { Prints (entries_text 1 history.now) (seen K.taken K.faults K.zeros out.old) printer.old (seen K.taken K.faults K.zeros out.new) printer.new }
 {
     for (i, entry) in history.iter().enumerate() {
@@ -242,7 +235,7 @@ fn print_entries<K: Sink>(printer: &mut StackPrinter, out: &mut K, history: &[En
     }
 }
 
-fn print_entry<K: Sink>(printer: &mut StackPrinter, out: &mut K, place: usize, entry: &Entry)
+fn print_entry<K: Sink>(printer: &mut Printer, out: &mut K, place: usize, entry: &Entry)
     ensures { Prints (entry_text place entry.now) (seen K.taken K.faults K.zeros out.old) printer.old (seen K.taken K.faults K.zeros out.new) printer.new }
 {
     print_number(printer, out, place);
@@ -256,7 +249,7 @@ fn print_entry<K: Sink>(printer: &mut StackPrinter, out: &mut K, place: usize, e
 }
 
 // What an accepted command did.
-fn print_detail<K: Sink>(printer: &mut StackPrinter, out: &mut K, what: &Detail)
+fn print_detail<K: Sink>(printer: &mut Printer, out: &mut K, what: &Detail)
     ensures { Prints (detail_text what.now) (seen K.taken K.faults K.zeros out.old) printer.old (seen K.taken K.faults K.zeros out.new) printer.new }
 {
     match what {
@@ -276,7 +269,7 @@ fn print_detail<K: Sink>(printer: &mut StackPrinter, out: &mut K, what: &Detail)
 }
 
 // The last line.
-fn print_stats<K: Sink>(printer: &mut StackPrinter, out: &mut K, stats: &Stats)
+fn print_stats<K: Sink>(printer: &mut Printer, out: &mut K, stats: &Stats)
     ensures { Prints (stats_text (Some stats.now)) (seen K.taken K.faults K.zeros out.old) printer.old (seen K.taken K.faults K.zeros out.new) printer.new }
 {
     print_numbered(printer, out, b"stats tasks ", stats.tasks);
@@ -287,7 +280,7 @@ fn print_stats<K: Sink>(printer: &mut StackPrinter, out: &mut K, stats: &Stats)
 }
 
 // A number in decimal.
-fn print_number<K: Sink, I: Integer>(printer: &mut StackPrinter, out: &mut K, number: I)
+fn print_number<K: Sink, I: Integer>(printer: &mut Printer, out: &mut K, number: I)
     ensures { Prints (I.text number) (seen K.taken K.faults K.zeros out.old) printer.old (seen K.taken K.faults K.zeros out.new) printer.new }
 {
     let mut buffer = Buffer::new();

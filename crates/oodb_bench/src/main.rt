@@ -1,6 +1,7 @@
 //! `oodb_bench WORK TIMES`: does one kind of work on a full page so many times, for `bench/pages`, which takes the time; and
 //! `oodb_bench text|lex|parse KIND SIZE` reads texts of statements of so many bytes, for `bench/sql`; and
-//! `oodb_bench table|order|group|count ROWS` makes a table of so many rows and answers a query over it, for `bench/queries`.
+//! `oodb_bench [whole] table|order|group|count ROWS` makes a table of so many rows, answers a query over it and looks at the first row of the
+//! answer, or at the whole of it, for `bench/queries`.
 //! The page has 214 rows of (INT, TEXT of 8 bytes). The program prints a sum over what it did, so that no work falls away.
 #![tactic(auto)]
 
@@ -10,7 +11,7 @@ mod sql;
 mod work;
 
 use chunk::{build, make_rows, write_plainly};
-use query::{Query, ask};
+use query::{Look, Query, ask};
 use sql::{Kind, Reading, read};
 use std::env::Args;
 use std::io::Write;
@@ -35,7 +36,7 @@ fn main(rt: HostRuntime) -> ExitCode {
         Asked::Rows => make_rows(rt.alloc(), &bench.schema, times),
         Asked::Plain => write_plainly(rt.alloc(), rt, &bench, times),
         Asked::Texts(reading, kind) => read(rt.alloc(), reading, kind, times),
-        Asked::Query(query) => ask(rt.alloc(), query, times),
+        Asked::Query(query, look) => ask(rt.alloc(), query, look, times),
     };
     let Ok(sum) = done else {
         return ExitCode::from(6);
@@ -62,8 +63,8 @@ enum Asked {
     Plain,
     /// Texts of statements, of so many bytes.
     Texts(Reading, Kind),
-    /// A query over a table of so many rows.
-    Query(Query),
+    /// A query over a table of so many rows, and what is looked at of its answer.
+    Query(Query, Look),
 }
 
 // What is asked for, and how often.
@@ -73,6 +74,7 @@ fn read_args(args: Args) -> Option<(Asked, u32)> {
         "chunk" => Asked::Chunk,
         "rows" => Asked::Rows,
         "plain" => Asked::Plain,
+        "whole" => Asked::Query(Query::named(args.next()?.as_str())?, Look::Whole),
         name => match Reading::named(name) {
             Some(reading) => Asked::Texts(reading, Kind::named(args.next()?.as_str())?),
             None => asked_of(name)?,
@@ -85,7 +87,7 @@ fn read_args(args: Args) -> Option<(Asked, u32)> {
 // What a word asks for that has no other word behind it.
 fn asked_of(name: &str) -> Option<Asked> {
     match Query::named(name) {
-        Some(query) => Some(Asked::Query(query)),
+        Some(query) => Some(Asked::Query(query, Look::First)),
         None => Some(Asked::Page(Work::named(name)?)),
     }
 }

@@ -44,21 +44,38 @@ impl Query {
     }
 }
 
-/// Makes a table of so many rows, answers the query, and gives a sum over the answer.
-pub fn ask(alloc: Global, query: Query, rows: u32) -> Result<u64, AllocError> {
+/// What is looked at of the rows of an answer.
+#[derive(Clone, Copy, Debug)]
+pub enum Look {
+    /// The first one.
+    First,
+    /// All, in their order.
+    Whole,
+}
+
+/// Makes a table of so many rows, answers the query, and gives a sum over what is looked at of the answer: of the table itself, where nothing is asked.
+pub fn ask(alloc: Global, query: Query, look: Look, rows: u32) -> Result<u64, AllocError> {
     let rows = table(alloc, rows)?;
     match query.statement() {
-        None => Ok(sum_of_rows(rows.as_slice())),
+        None => Ok(sum_of_rows(looked_at(look, rows.as_slice()))),
         Some(text) => {
             let mut tables = PlainTables::new(alloc);
             tables.push(rows)?;
-            answer(alloc, text, &tables)
+            answer(alloc, text, look, &tables)
         }
     }
 }
 
+// Those of these rows that are looked at.
+fn looked_at<T>(look: Look, rows: &[T]) -> &[T] {
+    match look {
+        Look::First => &rows[..rows.len().min(1)],
+        Look::Whole => rows,
+    }
+}
+
 // The sum over the answer of a statement.
-fn answer(alloc: Global, text: &[u8], tables: &PlainTables) -> Result<u64, AllocError> {
+fn answer(alloc: Global, text: &[u8], look: Look, tables: &PlainTables) -> Result<u64, AllocError> {
     if text.len() > 67_108_864 {
         return Err(AllocError);
     }
@@ -67,7 +84,7 @@ fn answer(alloc: Global, text: &[u8], tables: &PlainTables) -> Result<u64, Alloc
     };
     let query = bound(alloc, &select)?;
     match naive(alloc, &query, tables) {
-        Ok(rows) => Ok(sum_of_answer(rows.as_slice())),
+        Ok(rows) => Ok(sum_of_answer(looked_at(look, rows.as_slice()))),
         Err(_) => Err(AllocError),
     }
 }

@@ -4,6 +4,6 @@ use Rattle.hv_report.proofs.writing.print_entry.Goals as goal
 
 pub returns : goal.returns
 returns g c = λ start text h.
-    let parts = c.put-5.ensures start _ (c.print_detail.ensures start _ (c.put-4.ensures start _ (c.print_number-2.ensures start _
-    (c.put-3.ensures start _ (c.put-2.ensures start _ (c.put.ensures start _ (c.print_number.ensures start text h))))))) in
+    let parts = c.put-5.ensures.prints start _ (c.print_detail.ensures start _ (c.put-4.ensures.prints start _ (c.print_number-2.ensures start _
+    (c.put-3.ensures.prints start _ (c.put-2.ensures.prints start _ (c.put.ensures.prints start _ (c.print_number.ensures start text h))))))) in
     simp append_assoc (simp (c.as_slice.ensures, append_assoc) at parts)

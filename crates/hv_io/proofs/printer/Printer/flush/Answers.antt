@@ -6,6 +6,4 @@ pub returns-clause-prints : goal.returns-clause-prints
 returns-clause-prints g c = λ start text h.
     let held = rw (← c.self.view_is) at h in
     let ok = rw (← c.self.view_is) at c.requires in
-    let all = rw c.as_slice.ensures.value at c.put-self-inside.ensures.all in
-    let part = rw c.as_slice.ensures.value at c.put-self-inside.ensures.part in
-    rw c.clear.ensures.items (flush_prints start text _ _ _ _ _ ok all part held)
+    flush_prints start text _ _ _ _ _ ok c.put-self-inside.ensures.all c.put-self-inside.ensures.part held
