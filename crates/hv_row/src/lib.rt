@@ -9,8 +9,6 @@ mod listed;
 mod row;
 mod schema;
 mod spelling;
-#[cfg(test)]
-mod tests;
 mod value;
 
 pub use bytes::Bytes;
