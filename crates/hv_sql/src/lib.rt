@@ -18,8 +18,6 @@ mod select;
 mod statement;
 mod stop;
 mod terminal;
-#[cfg(test)]
-mod tests;
 mod unlexed;
 mod words;
 
