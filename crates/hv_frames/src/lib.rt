@@ -4,8 +4,6 @@
 
 mod frame;
 mod owner;
-#[cfg(test)]
-mod tests;
 
 pub use frame::{FRAME_BYTES, Frame};
 pub use owner::{Owner, make};

@@ -3,8 +3,6 @@
 #![tactic(auto)]
 
 mod reading;
-#[cfg(test)]
-mod tests;
 mod writer;
 
 pub use reading::row_at;

@@ -7,8 +7,6 @@ mod hashing;
 mod heap;
 mod layout;
 mod row_id;
-#[cfg(test)]
-mod tests;
 
 pub use hashing::digest;
 pub use heap::{HEAP_KIND, HeapView, parse_heap};

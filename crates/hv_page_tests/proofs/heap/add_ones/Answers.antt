@@ -1,6 +1,6 @@
 use Rattle.std.proofs.Common.{◌∙◌, arith}
 use Rattle.hv_heap.proofs.Placing.{placed_counts, placed_schema}
-use Rattle.hv_heap.proofs.tests.add_ones.Goals as goal
+use Rattle.hv_page_tests.proofs.heap.add_ones.Goals as goal
 
 pub loop-at-preserved : goal.loop-at-preserved
 loop-at-preserved c =

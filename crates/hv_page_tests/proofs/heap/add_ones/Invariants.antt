@@ -1,5 +1,5 @@
 use Rattle.std.proofs.Common.{◌≡◌, ◌+◌}
-use Rattle.hv_heap.proofs.tests.add_ones.Given as goal
+use Rattle.hv_page_tests.proofs.heap.add_ones.Given as goal
 
 abbrev pub invariant-loop-at : goal.invariant-loop-at
 invariant-loop-at l = record {

@@ -3,7 +3,7 @@ use Rattle.std.proofs.lemmas.List.FromFn.{length-map-range_with_len}
 use Rattle.std.proofs.lemmas.List.Sorted.{IsPermutation-swap, length_permutation}
 use Rattle.hv_frames.specs.Frames.{AreAll, fresh_frame}
 use Rattle.hv_frames.proofs.Frames.{AreAll-fresh, AreAll-set, AreAll-permutation}
-use Rattle.hv_frames.proofs.tests.writes_to_one_of_five.Goals as goal
+use Rattle.hv_page_tests.proofs.frames.writes_to_one_of_five.Goals as goal
 
 -- two frames were written to, and all were put in another order
 pub end-requires : goal.end-requires

@@ -1,6 +1,6 @@
 use Rattle.std.proofs.Common.{◌≡◌, ℕ, Bool, true, false, List, [], ◌∷◌, ◌++◌, refl, sym, subst}
 use Rattle.hv_page.specs.Layout.{IsBegun, WasBegun}
-use Rattle.hv_page.proofs.tests.push_one.Goals as goal
+use Rattle.hv_page_tests.proofs.page.push_one.Goals as goal
 
 -- a page to which an entry was pushed was begun, whether it had room or not
 begun_still : (old new entry : List ℕ) (pushed : Bool) → WasBegun old
