@@ -1,8 +1,8 @@
 // Values, rows and schemas; the expected values are reasoned, and no output of the crate's own.
 use crate::made::{column, columns_of, row_of, schema_of, text};
 use hv_row::{
-    Bytes, ColType, Column, Columns, Copied, MAX_COLUMNS, Row, Value, compare, first_repeated, is_text,
-    row_fits, row_length,
+    Bytes, ColType, Column, Columns, Copied, MAX_COLUMNS, Row, Value, compare, first_repeated,
+    is_text, row_fits, row_length,
 };
 use std::alloc::Global;
 use std::cmp::Ordering;
