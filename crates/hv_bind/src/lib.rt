@@ -10,8 +10,6 @@ mod names;
 mod order;
 mod place;
 mod scope;
-#[cfg(test)]
-mod tests;
 
 pub use binding::{BindFault, bind};
 pub use place::places;

@@ -10,10 +10,6 @@ mod loops;
 mod ordering;
 mod plain;
 mod rows_out;
-#[cfg(test)]
-mod tests;
-#[cfg(test)]
-mod tests_grouping;
 
 pub use condition::holds;
 pub use law::{answer_law, truth_law};

@@ -1,7 +1,5 @@
 // Queries with their answers, which follow from the rules of the language; none is the program's own answer.
 ghost use Rattle.std.specs.Prelude.{◌≡◌, length, IfOk};
-ghost use Rattle.std.specs.List.{list_any};
-ghost use Rattle.hv_model.specs.Bound as spec;
 
 mod comparing;
 mod grouping;
@@ -10,13 +8,14 @@ mod ordering;
 mod refusing;
 mod selecting;
 
+use crate::asked::answer_text;
 use crate::database::{Database, copied, parsed};
-use crate::written::{refusal_text, rows_text};
+use crate::grouped::is_grouped;
+use crate::written::refusal_text;
 use comparing::{COMPARISON_CASES, CONDITION_CASES, TEXT_CASES};
 use grouping::{EMPTY_CASES, GROUP_CASES, SUM_CASES};
 use hv_bind::{BindFault, bind, places};
-use hv_expr::{NaiveFault, naive};
-use hv_model::{Ast, BoundQuery, ItemAst, PlaceAst, PlainTables, Refusal, SelectAst, TableHead};
+use hv_model::{Ast, BoundQuery, PlaceAst, PlainTables, Refusal, SelectAst, TableHead};
 use hv_row::{Copied, Listed};
 use hv_sql::SqlFault;
 use joining::{JOIN_CASES, SELF_JOIN_CASES};
@@ -68,25 +67,6 @@ fn tables_of(alloc: Global, database: &Database, query: &BoundQuery) -> Result<P
     Ok(tables)
 }
 
-fn is_aggregate(item: &ItemAst) -> bool
-    ensures { result ≡ spec.is_aggregate item.now }
-{
-    !matches!(item, ItemAst::Star { .. } | ItemAst::Col(_))
-}
-
-fn has_aggregate(items: &[ItemAst]) -> bool
-    ensures { result ≡ list_any spec.is_aggregate items.now }
-{
-    items.iter().any(|item| is_aggregate(item))
-}
-
-// Whether a select has GROUP BY or an aggregate.
-fn is_grouped(select: &SelectAst) -> bool
-    ensures { result ≡ spec.is_grouped select.now }
-{
-    !select.groups.is_empty() || has_aggregate(select.items.as_slice())
-}
-
 // The answer of a query as text: its rows, or why it is refused.
 fn answer(alloc: Global, database: &Database, query: &str) -> Result<String, Fail> {
     match parsed(alloc, query) {
@@ -127,12 +107,7 @@ fn answer_over_places(
 
 // The answer of a bound query.
 fn query_answer(alloc: Global, database: &Database, query: &BoundQuery) -> Result<String, Fail> {
-    let tables = tables_of(alloc, database, query)?;
-    match naive(alloc, query, &tables) {
-        Ok(rows) => rows_text(alloc, rows.as_slice()),
-        Err(NaiveFault::EmptyAggregate) => refusal_text(alloc, Refusal::EmptyAggregate),
-        Err(NaiveFault::Memory) => Err(Fail::from("no memory")),
-    }
+    answer_text(alloc, query, &tables_of(alloc, database, query)?)
 }
 
 // A line of cases begins a table or a query, or stands indented below one: a row of the table, or a line of the answer.
@@ -176,7 +151,7 @@ impl<'a> Reader<'a> {
     fn meet(&mut self, rt: &impl Abort, alloc: Global) -> Result<(), Fail> {
         if let Some(query) = self.query {
             let got = answer(alloc, &self.database, query)?;
-            assert_eq!(rt; got.as_str(), self.wanted.as_str(), "{query}");
+            assert!(rt; got.as_str() == self.wanted.as_str(), "{query}");
             self.wanted.clear();
             self.query = None;
         }
