@@ -1,0 +1,5 @@
+pub mod Bags
+pub mod Counts
+pub mod Parts
+pub mod Orders
+mod Compared
