@@ -1,9 +1,8 @@
 -- What a builder keeps, from its first row to its chunk.
-use Rattle.std.proofs.Common.{◌≡◌, ℕ, ◌+◌, ◌<◌, ◌≤◌, Bool, true, false, Option, Some, inl, inr, List, [], ◌∷◌, ◌++◌, length, map, refl, sym, ap, subst, ◌∙◌, arith, length-append}
+use Rattle.std.proofs.Common.{◌≡◌, ℕ, ◌+◌, ◌<◌, ◌≤◌, Bool, true, false, Option, Some, inl, inr, List, [], ◌∷◌, ◌++◌, length, take, map, refl, sym, ap, subst, ◌∙◌, arith, length-append}
 use Rattle.std.specs.Prelude.{Result, Ok, Err, OnOk}
-use Rattle.std.specs.Option.{IsSome, is_some}
 use Rattle.std.specs.List.{AllByRecursion}
-use Rattle.std.proofs.lemmas.List.{map-append, length-map}
+use Rattle.std.proofs.lemmas.List.{map-append, length-map, take_all}
 use Rattle.sha2.specs.Sha256.{sha256}
 use Rattle.hv_row.specs.declared.value.Value.{Value}
 use Rattle.hv_row.specs.declared.schema.Column.{Column}
@@ -14,8 +13,9 @@ use Rattle.hv_page.specs.Chunk.{IsPacked, IsStored, heap_pages_from, AreHeapPage
 use Rattle.hv_page.proofs.Reading.{page_length}
 use Rattle.hv_heap.specs.declared.writer.Placed.{Placed}
 use Rattle.hv_heap.specs.Writer.{Packing, page_now, Stays, Begins, IsPlaced}
-use Rattle.hv_chunk.specs.Building.{Building, IsBuilt}
-use Rattle.hv_chunk.specs.Keeping.{parts_with, IsKept}
+use Rattle.hv_view.specs.View.{IsBuilt}
+use Rattle.hv_chunk.specs.Building.{Building}
+use Rattle.hv_chunk.specs.Keeping.{parts_with, IsKept, IsWhole}
 use Rattle.hv_chunk.proofs.Packing.{flat, pages_once, pages_within}
 use Rattle.hv_chunk.proofs.Growing.{stays_packed, begins_packed, flat_stays, flat_begins, pages_more, pages_count}
 
@@ -119,6 +119,10 @@ pub digests_within : (writer : Packing) (building : Building) (digests : List (L
 digests_within writer building digests row_count kept =
     omega (arith, kept.counted, ap length kept.digested, length-map building.pages sha256, ap length kept.finished, pages_count written_version 0 kept.parts, parts_within kept.parts writer.entries, pages_within (parts_with kept.parts writer.entries) kept.packed, ap length kept.slots, length-map building.rows (row_bytes building.schema))
 
+-- there are as many digests as pages that were written
+pub digests_count : (writer : Packing) (building : Building) (digests : List (List ℕ)) (row_count : ℕ) → IsKept writer building digests row_count → length digests ≡ length building.pages
+digests_count writer building digests row_count kept = ap length kept.digested ∙ length-map building.pages sha256
+
 some_whole : (parts : List (List (List ℕ))) (entries : List (List ℕ)) → (entries ≡ [] → parts ≡ []) → 0 < length (flat (parts_with parts entries)) → parts_with parts entries ≡ parts ++ entries ∷ []
 some_whole [] [] begun some = absurd (omega arith)
 some_whole (p ∷ parts) [] begun some = let none : p ∷ parts ≡ [] = begun refl in cc
@@ -149,29 +153,6 @@ pub heap_without : (writer : Packing) (building : Building) (digests : List (Lis
 heap_without writer building digests row_count kept none =
     let few : length (parts_with kept.parts writer.entries) ≤ 0 = omega (arith, kept.counted, ap length kept.slots, length-map building.rows (row_bytes building.schema), pages_within (parts_with kept.parts writer.entries) kept.packed) in
     heap_of building.schema building.rows _ kept.parts (parts_with kept.parts writer.entries) kept.stored kept.packed kept.slots (none_whole kept.parts writer.entries few) kept.finished
-
--- the chunk of some rows, of what was written
-pub built_of : {File : Type 0} (tells : Bool) (pages : File → List (List ℕ)) (schema : List Column) (rows : List (List Value)) (digests : List (List ℕ)) (heap_pages row_count : ℕ) (file : File) (written : List (List ℕ))
-    → AreHeapPages written_version schema written rows → row_count ≡ length rows → heap_pages ≡ length digests → digests ≡ map sha256 written → (tells ≡ true → pages file ≡ written)
-    → IsBuilt tells pages schema rows (record { rows = rows; schema = schema; digests = digests; heap_pages = heap_pages; row_count = row_count; file = file })
-built_of {File} tells pages schema rows digests heap_pages row_count file written heap counted count digested told =
-    let all : heap_pages ≡ length written = count ∙ ap length digested ∙ length-map written sha256 in record {
-      schema_is = refl;
-      rows_are = refl;
-      counted = counted;
-      written = written;
-      heap = heap;
-      only = λ others those. pages_once written_version schema others written rows those heap;
-      all = all;
-      digested = digested;
-      file = told;
-      whole = λ t. record {
-        heap = subst (λ (are : List (List ℕ)). AreHeapPages written_version schema are rows) (sym (told t)) heap;
-        all = all ∙ ap length (sym (told t));
-        counted = counted;
-        digested = digested ∙ ap (map sha256) (sym (told t));
-      };
-    }
 
 -- a row begins a page where one is finished
 pub begins_of : {before after : Packing} (row : List Value) (placed : Placed) → IsPlaced before after row placed → placed.full ≡ true → Begins before after (row_bytes before.schema row) placed
@@ -233,16 +214,9 @@ pub so_too : {T E P Q : Type 0} (r : Result T E) → OnOk r P → (P → Q) → 
 so_too (Ok _) p then = then p
 so_too (Err _) p then = tt
 
--- all pages of a builder's rows stand in the open file, with their digests
-pub record IsWhole (schema : List Column) (rows : List (List Value)) (digests : List (List ℕ)) (open_file : Option (List (List ℕ))) : Type 0 where
-  pub written : List (List ℕ)
-  pub heap : AreHeapPages written_version schema written rows
-  pub digested : digests ≡ map sha256 written
-  pub open_is : open_file ≡ Some written
-  pub few : length digests ≤ 1000001
-
+-- the last page and its digest behind the others
 pub whole_with : (writer : Packing) (building : Building) (digests more_digests : List (List ℕ)) (row_count : ℕ) (page : List ℕ) (open_file : Option (List (List ℕ))) → IsKept writer building digests row_count → 0 < row_count → page ≡ page_now writer
-    → more_digests ≡ digests ++ sha256 page ∷ [] → open_file ≡ Some (building.pages ++ page ∷ []) → IsWhole building.schema building.rows more_digests open_file
+    → more_digests ≡ digests ++ sha256 page ∷ [] → open_file ≡ Some (building.pages ++ page ∷ []) → IsWhole building more_digests open_file
 whole_with writer building digests more_digests row_count page open_file kept some same same_digests open_is = record {
   written = building.pages ++ page ∷ [];
   heap = subst (λ (p : List ℕ). AreHeapPages written_version building.schema (building.pages ++ p ∷ []) building.rows) (sym same) (heap_with writer building digests row_count kept some);
@@ -251,23 +225,32 @@ whole_with writer building digests more_digests row_count page open_file kept so
   few = omega (arith, kept.few, digests_within writer building digests row_count kept, ap length same_digests, length-append digests (sha256 page ∷ []));
 }
 
-pub whole_without : (writer : Packing) (building : Building) (digests more_digests : List (List ℕ)) (row_count : ℕ) (open_file : Option (List (List ℕ))) → IsKept writer building digests row_count → row_count ≤ 0 → more_digests ≡ digests → open_file ≡ Some building.pages
-    → IsWhole building.schema building.rows more_digests open_file
-whole_without writer building digests more_digests row_count open_file kept none same_digests open_is = record {
+-- without a row there is no page more
+pub whole_without : (writer : Packing) (building : Building) (digests : List (List ℕ)) (row_count : ℕ) (open_file : Option (List (List ℕ))) → IsKept writer building digests row_count → row_count ≤ 0 → open_file ≡ Some building.pages → IsWhole building digests open_file
+whole_without writer building digests row_count open_file kept none open_is = record {
   written = building.pages;
   heap = heap_without writer building digests row_count kept none;
-  digested = same_digests ∙ kept.digested;
+  digested = kept.digested;
   open_is = open_is;
-  few = omega (arith, kept.few, digests_within writer building digests row_count kept, ap length same_digests);
+  few = omega (arith, kept.few, digests_within writer building digests row_count kept);
 }
 
-pub is_open : {schema : List Column} {rows : List (List Value)} {digests : List (List ℕ)} (open_file : Option (List (List ℕ))) → IsWhole schema rows digests open_file → IsSome open_file
-is_open open_file whole = ap is_some whole.open_is
-
 -- the chunk of a builder whose pages are all written
-pub built_whole : {File : Type 0} (tells : Bool) (pages : File → List (List ℕ)) (writer : Packing) (building : Building) (digests old_digests : List (List ℕ)) (heap_pages row_count : ℕ) (file : File) (open_file : Option (List (List ℕ)))
-    → IsKept writer building old_digests row_count → IsWhole building.schema building.rows digests open_file → heap_pages ≡ length digests → (tells ≡ true → open_file ≡ Some (pages file))
-    → IsBuilt tells pages building.schema building.rows (record { rows = building.rows; schema = building.schema; digests = digests; heap_pages = heap_pages; row_count = row_count; file = file })
-built_whole {File} tells pages writer building digests old_digests heap_pages row_count file open_file kept whole count told =
-    built_of tells pages building.schema building.rows digests heap_pages row_count file whole.written whole.heap kept.counted count whole.digested
-    (λ t. let one : open_file ≡ Some (pages file) = told t in let other : open_file ≡ Some whole.written = whole.open_is in cc)
+pub built_whole : {File : Type 0} (tells : Bool) (pages : File → List (List ℕ)) (building : Building) (digests : List (List ℕ)) (heap_pages row_count : ℕ) (file : File) (open_file : Option (List (List ℕ)))
+    → IsWhole building digests open_file → row_count ≡ length building.rows → heap_pages ≡ length digests → (tells ≡ true → open_file ≡ Some (pages file))
+    → IsBuilt tells pages building.schema building.rows (record { version = written_version; rows = building.rows; schema = building.schema; digests = digests; heap_pages = heap_pages; row_count = row_count; file = file })
+built_whole {File} tells pages building digests heap_pages row_count file open_file whole counted count told =
+    let all : heap_pages ≡ length whole.written = count ∙ ap length whole.digested ∙ length-map whole.written sha256 in
+    let front : take heap_pages whole.written ≡ whole.written = take_all heap_pages whole.written (omega (arith, all)) in
+    let heap : AreHeapPages written_version building.schema (take heap_pages whole.written) building.rows = subst (λ (are : List (List ℕ)). AreHeapPages written_version building.schema are building.rows) (sym front) whole.heap in
+    record {
+      recorded = record {
+        schema_is = refl;
+        rows_are = refl;
+        version_is = refl;
+        written = whole.written;
+        is_chunk = record { within = omega (arith, all); heap = heap; all = sym all; counted = counted; digested = whole.digested };
+        only = λ others those. pages_once written_version building.schema others _ building.rows those heap;
+      };
+      file = λ t. let one : open_file ≡ Some (pages file) = told t in let other : open_file ≡ Some whole.written = whole.open_is in cc;
+    }

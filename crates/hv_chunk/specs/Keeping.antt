@@ -1,10 +1,10 @@
 -- What a builder keeps. This project's own.
-use Rattle.std.specs.Prelude.{◌≡◌, ℕ, ◌≤◌, List, [], ◌∷◌, ◌++◌, length, map}
+use Rattle.std.specs.Prelude.{◌≡◌, ℕ, ◌≤◌, List, Option, Some, [], ◌∷◌, ◌++◌, length, map}
 use Rattle.std.specs.List.{AllByRecursion, flat_map}
 use Rattle.sha2.specs.Sha256.{sha256}
 use Rattle.hv_row.specs.Row.{row_bytes}
 use Rattle.hv_page.specs.Layout.{written_version}
-use Rattle.hv_page.specs.Chunk.{IsPacked, IsStored, heap_pages_from}
+use Rattle.hv_page.specs.Chunk.{IsPacked, IsStored, AreHeapPages, heap_pages_from}
 use Rattle.hv_heap.specs.Writer.{Packing}
 use Rattle.hv_chunk.specs.Building.{Building}
 
@@ -27,3 +27,11 @@ pub record IsKept (writer : Packing) (building : Building) (digests : List (List
   pub number : length parts ≡ writer.number
   pub finished : building.pages ≡ heap_pages_from written_version 0 parts
   pub digested : digests ≡ map sha256 building.pages
+
+-- all pages of a builder's rows stand in the open file, with their digests
+pub record IsWhole (building : Building) (digests : List (List ℕ)) (open_file : Option (List (List ℕ))) : Type 0 where
+  pub written : List (List ℕ)
+  pub heap : AreHeapPages written_version building.schema written building.rows
+  pub digested : digests ≡ map sha256 written
+  pub open_is : open_file ≡ Some written
+  pub few : length digests ≤ 1000001

@@ -2,7 +2,10 @@
 ghost use Rattle.std.specs.Prelude.{◌≡◌, ℕ, List, Some, Err, true, false, [], ◌∷◌, ◌++◌, ◌<◌, ◌≤◌, length, IfOk, IfErr, IsSome, OnOk, OnErr};
 ghost use Rattle.hv_row.specs.Row.{RowFits, row_bytes};
 ghost use Rattle.hv_dev.specs.Fault.{IsCaused};
-ghost use Rattle.hv_chunk.specs.Building.{Building, IsBuildFault, IsBuilt};
+ghost use Rattle.hv_heap.specs.Writer.{page_now};
+ghost use Rattle.hv_view.specs.View.{IsBuilt};
+ghost use Rattle.hv_chunk.specs.Building.{Building, IsBuildFault};
+ghost use Rattle.hv_chunk.specs.Keeping.{IsKept, IsWhole};
 ghost use Rattle.hv_chunk.specs.declared.fault.BuildFault.TheVariants.{Memory, TooLong};
 
 use crate::{BuildFault, Chunk};
@@ -94,6 +97,13 @@ impl ChunkBuilder {
         Ok(())
     }
 
+    /// How many pages it has written: each `push` writes at most one.
+    pub fn pages_written(&self) -> u32
+        ensures { result ≡ length self.now.pages }
+    {
+        self.digests.len() as u32
+    }
+
     /// Writes the last page, seals the file and gives the chunk of the rows that were pushed. After a fault the open
     /// file is abandoned; it is never `TooLong`.
     pub fn finish<P: PageSink>(
@@ -116,14 +126,7 @@ impl ChunkBuilder {
             pages: _,
             schema,
         } = self;
-        if row_count > 0 {
-            let page = writer.page();
-            let Ok(()) = digests.push(digest(page)) else {
-                port.abandon();
-                return Err(BuildFault::Memory);
-            };
-            put(port, alloc, page)?;
-        }
+        put_last(port, alloc, &writer, &mut digests, row_count)?;
         match port.seal(alloc) {
             Ok(file) => Ok(Chunk {
                 file,
@@ -166,6 +169,33 @@ fn put<P: PageSink>(port: &mut P, alloc: Global, page: &[u8]) -> Result<(), Buil
         Ok(()) => Ok(()),
         Err(fault) => Err(give_up(port, fault)),
     }
+}
+
+// Puts the page that is being made and its digest behind the others, where there is a row.
+fn put_last<P: PageSink>(
+    port: &mut P,
+    alloc: Global,
+    writer: &HeapWriter,
+    digests: &mut Vec<Digest>,
+    row_count: u32,
+) -> Result<(), BuildFault>
+    requires page { length (page_now writer.now) ≡ 4096 }
+    requires open { IsSome (P.written port.old) }
+    ensures whole { OnOk result ((building : Building) → IsKept writer.now building digests.old.items row_count → P.written port.old ≡ Some building.pages → IsWhole building digests.new.items (P.written port.new)) }
+    ensures abandoned { OnErr result (P.written port.new ≡ Some []) }
+    ensures calm { OnOk result (P.write_faults port.new ≡ P.write_faults port.old) }
+    ensures cause { IfErr result (λ fault. IsBuildFault fault 0 (P.write_faults port.old) (P.write_faults port.new)) }
+    ensures kept { P.reading port.new ≡ P.reading port.old }
+{
+    if row_count == 0 {
+        return Ok(());
+    }
+    let page = writer.page();
+    let Ok(()) = digests.push(digest(page)) else {
+        port.abandon();
+        return Err(BuildFault::Memory);
+    };
+    put(port, alloc, page)
 }
 
 // Gives up the open file, and says why.

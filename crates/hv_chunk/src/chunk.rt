@@ -22,11 +22,12 @@ pub struct Chunk<F> {
 impl<F> Model for Chunk<F> {
     ghost use Rattle.std.specs.Prelude.{◌≡◌, length};
     ghost use Rattle.std.specs.Arc.{arc_value};
+    ghost use Rattle.hv_page.specs.Layout.{written_version};
     ghost use Rattle.hv_view.specs.View.{Viewed};
 
     ghost Value = { Viewed F };
 
-    ghost view = { λ c. record { rows = c.rows; schema = c.schema; digests = c.digests.items; heap_pages = c.heap_pages; row_count = c.row_count; file = arc_value c.file } };
+    ghost view = { λ c. record { version = written_version; rows = c.rows; schema = c.schema; digests = c.digests.items; heap_pages = c.heap_pages; row_count = c.row_count; file = arc_value c.file } };
 
     ghost invariant = { λ c. c.heap_pages ≡ length c.digests.items };
 }

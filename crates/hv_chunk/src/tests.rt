@@ -66,6 +66,7 @@ fn build<P: PageSink>(
             Err(BuildFault::TooLong) => panic!(rt; "a row of 8 bytes is too long"),
             Err(fault) => return Err(fault),
         }
+        assert!(rt; builder.pages_written() == number / ROWS);
     }
     builder.finish(alloc, port)
 }

@@ -29,7 +29,3 @@ pub record Seen : Type 0 where
   pub taken : Option (List ℕ)
   pub faults : ℕ
   pub zeros : ℕ
-
--- a sink by its bound's members, as `seen K.taken K.faults K.zeros out.old`
-abbrev pub seen : {K : Type 0} → (K → Option (List ℕ)) → (K → ℕ) → (K → ℕ) → K → Seen
-seen taken faults zeros out = record { taken = taken out; faults = faults out; zeros = zeros out }

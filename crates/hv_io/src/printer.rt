@@ -1,6 +1,7 @@
 // A buffer before a sink.
 ghost use Rattle.std.specs.Prelude.{◌≡◌, ℕ, ◌+◌, ◌≤◌, List, [], ◌++◌, length, OnOk, OnErr, IfErr, IsOk, IsTrue, ◌↔◌};
-ghost use Rattle.hv_io.specs.Bytes.{Seen, seen};
+ghost use Rattle.hv_io.specs.Bytes.{Seen};
+ghost use Rattle.hv_io.specs.Seen.{seen};
 ghost use Rattle.hv_io.specs.Printing.{HasPrinted, Printing, Prints, blank};
 ghost use Rattle.hv_io.specs.Putting.{TookAll, Stopped};
 
@@ -44,8 +45,8 @@ impl Printer {
 
     /// Puts bytes behind what was put before. After a fault of the sink nothing more is handed over.
     pub fn put<K: Sink>(&mut self, out: &mut K, bytes: &[u8])
-        ensures prints { Prints bytes.now (seen K.taken K.faults K.zeros out.old) self.old (seen K.taken K.faults K.zeros out.new) self.new }
-        ensures stays { OnErr self.old.outcome (seen K.taken K.faults K.zeros out.new ≡ seen K.taken K.faults K.zeros out.old) }
+        ensures prints { Prints bytes.now (seen K.Sink out.old) self.old (seen K.Sink out.new) self.new }
+        ensures stays { OnErr self.old.outcome (seen K.Sink out.new ≡ seen K.Sink out.old) }
     {
         let mut rest = bytes;
         while self.goes_on() && self.room() < rest.len() {
@@ -61,10 +62,10 @@ impl Printer {
 
     /// Hands over what was held back, and tells what became of all that was put.
     pub fn finish<K: Sink>(self, out: &mut K) -> Result<(), PutAll>
-        ensures all { (start : Seen) (text : List ℕ) → HasPrinted start text (seen K.taken K.faults K.zeros out.old) self → OnOk result (TookAll start text (seen K.taken K.faults K.zeros out.new)) }
-        ensures part { (start : Seen) (text : List ℕ) → HasPrinted start text (seen K.taken K.faults K.zeros out.old) self → IfErr result (λ cause. Stopped start text (seen K.taken K.faults K.zeros out.new) cause) }
-        ensures whole { (start : Seen) (old : Printing) (text : List ℕ) → Prints text start old (seen K.taken K.faults K.zeros out.old) self → old ≡ blank → OnOk result (TookAll start text (seen K.taken K.faults K.zeros out.new)) }
-        ensures cut { (start : Seen) (old : Printing) (text : List ℕ) → Prints text start old (seen K.taken K.faults K.zeros out.old) self → old ≡ blank → IfErr result (λ cause. Stopped start text (seen K.taken K.faults K.zeros out.new) cause) }
+        ensures all { (start : Seen) (text : List ℕ) → HasPrinted start text (seen K.Sink out.old) self → OnOk result (TookAll start text (seen K.Sink out.new)) }
+        ensures part { (start : Seen) (text : List ℕ) → HasPrinted start text (seen K.Sink out.old) self → IfErr result (λ cause. Stopped start text (seen K.Sink out.new) cause) }
+        ensures whole { (start : Seen) (old : Printing) (text : List ℕ) → Prints text start old (seen K.Sink out.old) self → old ≡ blank → OnOk result (TookAll start text (seen K.Sink out.new)) }
+        ensures cut { (start : Seen) (old : Printing) (text : List ℕ) → Prints text start old (seen K.Sink out.old) self → old ≡ blank → IfErr result (λ cause. Stopped start text (seen K.Sink out.new) cause) }
     {
         let mut printer = self;
         printer.end(out)
@@ -72,8 +73,8 @@ impl Printer {
 
     // Hands over what was held back, unless a fault came before.
     fn end<K: Sink>(&mut self, out: &mut K) -> Result<(), PutAll>
-        ensures all { (start : Seen) (text : List ℕ) → HasPrinted start text (seen K.taken K.faults K.zeros out.old) self.old → OnOk result (TookAll start text (seen K.taken K.faults K.zeros out.new)) }
-        ensures part { (start : Seen) (text : List ℕ) → HasPrinted start text (seen K.taken K.faults K.zeros out.old) self.old → IfErr result (λ cause. Stopped start text (seen K.taken K.faults K.zeros out.new) cause) }
+        ensures all { (start : Seen) (text : List ℕ) → HasPrinted start text (seen K.Sink out.old) self.old → OnOk result (TookAll start text (seen K.Sink out.new)) }
+        ensures part { (start : Seen) (text : List ℕ) → HasPrinted start text (seen K.Sink out.old) self.old → IfErr result (λ cause. Stopped start text (seen K.Sink out.new) cause) }
     {
         if self.goes_on() {
             self.flush(out);
@@ -109,7 +110,7 @@ impl Printer {
     fn flush<K: Sink>(&mut self, out: &mut K)
         requires { IsOk self.old.outcome }
         ensures held { self.new.pending ≡ [] }
-        ensures prints { (start : Seen) (text : List ℕ) → HasPrinted start text (seen K.taken K.faults K.zeros out.old) self.old → HasPrinted start text (seen K.taken K.faults K.zeros out.new) self.new }
+        ensures prints { (start : Seen) (text : List ℕ) → HasPrinted start text (seen K.Sink out.old) self.old → HasPrinted start text (seen K.Sink out.new) self.new }
     {
         self.outcome = put(out, &self.bytes[..self.held]);
         self.held = 0;

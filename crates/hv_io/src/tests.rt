@@ -1,11 +1,11 @@
 // A happy path for each public call, and a sink that takes little, fails in the middle or takes nothing.
-ghost use Rattle.std.specs.Prelude.{◌++◌, codes, None};
-ghost use Rattle.hv_io.specs.Bytes.{seen};
+ghost use Rattle.std.specs.Prelude.{◌≡◌, ◌++◌, codes, None, Some};
+ghost use Rattle.hv_io.specs.Seen.{seen};
 ghost use Rattle.hv_io.specs.Printing.{Prints};
 
 use crate::{Failed, MemSink, MemSource, Printer, PutAll, Sink, Source, StdSink, StdSource, put};
 use std::io;
-use std::io::{Cursor, ErrorKind, Read, Write};
+use std::io::{ErrorKind, Read, Write};
 use std::test::Fail;
 
 // A sink that takes three bytes and then nothing.
@@ -81,7 +81,7 @@ fn put_stops_at_a_write_of_nothing(rt: HostRuntime) {
 
 // A caller that prints, with the clause that its own callers chain.
 fn put_pair<K: Sink>(printer: &mut Printer, out: &mut K, name: &[u8], value: &[u8])
-    ensures { Prints (name.now ++ codes " = " ++ value.now ++ codes "\n") (seen K.taken K.faults K.zeros out.old) printer.old (seen K.taken K.faults K.zeros out.new) printer.new }
+    ensures { Prints (name.now ++ codes " = " ++ value.now ++ codes "\n") (seen K.Sink out.old) printer.old (seen K.Sink out.new) printer.new }
 {
     printer.put(out, name);
     printer.put(out, b" = ");
@@ -146,25 +146,42 @@ fn a_source_gives_pieces(rt: HostRuntime) -> Result<(), Fail> {
     Ok(())
 }
 
+// A source that tells the bytes of a slice.
+fn over<'a>(bytes: &'a [u8]) -> StdSource<&'a [u8]>
+    ensures { ⟦<StdSource<&'a [u8]> as Source>⟧.left result ≡ Some bytes.now }
+{
+    StdSource::new(bytes)
+}
+
+// A sink that tells the bytes of a list.
+fn behind<'a>(kept: &'a mut Vec<u8>) -> StdSink<&'a mut Vec<u8>>
+    ensures { ⟦<StdSink<&'a mut Vec<u8>> as Sink>⟧.taken result ≡ Some kept.old.items }
+{
+    StdSink::new(kept)
+}
+
 #[test]
 fn a_reader_is_a_source(rt: HostRuntime) -> Result<(), Fail> {
-    let mut source = StdSource::new(Cursor::new(b"abc".as_slice()));
+    let mut source = over(b"abc");
     let mut piece = [0; 2];
-    assert_eq!(rt; source.read(&mut piece), Ok(2));
-    assert_eq!(rt; piece, *b"ab");
-    assert_eq!(rt; source.read(&mut piece), Ok(1));
-    assert_eq!(rt; piece, *b"cb");
-    assert_eq!(rt; source.read(&mut piece), Ok(0));
-    assert_eq!(rt; StdSource::new(Broken).read(&mut piece), Err(Failed));
+    for (want, now) in [
+        (Ok(2), [b'a', b'b']),
+        (Ok(1), [b'c', b'b']),
+        (Ok(0), [b'c', b'b']),
+    ] {
+        assert!(rt; source.read(&mut piece) == want);
+        assert!(rt; piece == now);
+    }
+    assert!(rt; StdSource::new(Broken).read(&mut piece) == Err(Failed));
     Ok(())
 }
 
 #[test]
 fn a_writer_is_a_sink(rt: HostRuntime) -> Result<(), Fail> {
     let mut kept = Vec::new(rt.alloc());
-    let mut sink = StdSink::new(&mut kept);
-    assert_eq!(rt; put(&mut sink, b"abc"), Ok(()));
-    assert_eq!(rt; kept.as_slice(), b"abc".as_slice());
-    assert_eq!(rt; put(&mut StdSink::new(Broken), b"abc"), Err(PutAll::Failed));
+    assert!(rt; put(&mut behind(&mut kept), b"abc").is_ok());
+    assert!(rt; put(&mut behind(&mut kept), b"de").is_ok());
+    assert!(rt; kept.as_slice() == b"abcde".as_slice());
+    assert!(rt; put(&mut StdSink::new(Broken), b"abc") == Err(PutAll::Failed));
     Ok(())
 }

@@ -1,6 +1,6 @@
 // Handing over all of a byte string.
 ghost use Rattle.std.specs.Prelude.{OnOk, IfErr};
-ghost use Rattle.hv_io.specs.Bytes.{seen};
+ghost use Rattle.hv_io.specs.Seen.{seen};
 ghost use Rattle.hv_io.specs.Putting.{TookAll, Stopped};
 
 use crate::sink::Sink;
@@ -16,8 +16,8 @@ pub enum PutAll {
 
 /// Hands all bytes over, piece by piece, up to the first write that fails or takes nothing. Takes no memory.
 pub fn put<K: Sink>(out: &mut K, bytes: &[u8]) -> Result<(), PutAll>
-    ensures all { OnOk result (TookAll (seen K.taken K.faults K.zeros out.old) bytes.now (seen K.taken K.faults K.zeros out.new)) }
-    ensures part { IfErr result (λ cause. Stopped (seen K.taken K.faults K.zeros out.old) bytes.now (seen K.taken K.faults K.zeros out.new) cause) }
+    ensures all { OnOk result (TookAll (seen K.Sink out.old) bytes.now (seen K.Sink out.new)) }
+    ensures part { IfErr result (λ cause. Stopped (seen K.Sink out.old) bytes.now (seen K.Sink out.new) cause) }
 {
     let mut rest = bytes;
     while !rest.is_empty() {

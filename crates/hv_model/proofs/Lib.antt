@@ -1,4 +1,5 @@
 pub mod Places
+pub mod Premises
 pub mod SoFar
 pub mod TokenLaws
 pub mod Whole

@@ -147,13 +147,13 @@ same_at : (xs : List Statement) (n k : ℕ) (x y : Statement) → slice_get xs n
 same_at xs n k x y at_n at_k same = let e : slice_get xs n ≡ Some y = subst (λ (m : ℕ). slice_get xs m ≡ Some y) same at_k in cc
 
 -- a reply that changes nothing
-stays_more : (s : Script) (xs : List Statement) (max : ℕ) (tells : Bool) (history : List Entry) (rs : List Reply) (x : Statement) (r : Reply)
-    → LegalSoFar s xs max tells history rs → slice_get xs (length rs) ≡ Some x → is_done r ≡ false → number_of r ≡ length history
-    → ((n : ℕ) (rows : List (List _)) → r ≡ Rows n rows → Answered x (database_after s history n) max tells rows)
-    → ((n : ℕ) (cause : _) → r ≡ Refused n cause → IsRefusedFor x (database_after s history n) max tells cause)
+stays_more : (s : Script) (xs : List Statement) (max : ℕ) (known : Type 0) (history : List Entry) (rs : List Reply) (x : Statement) (r : Reply)
+    → LegalSoFar s xs max known history rs → slice_get xs (length rs) ≡ Some x → is_done r ≡ false → number_of r ≡ length history
+    → ((n : ℕ) (rows : List (List _)) → r ≡ Rows n rows → Answered x (database_after s history n) max known rows)
+    → ((n : ℕ) (cause : _) → r ≡ Refused n cause → IsRefusedFor x (database_after s history n) max known cause)
     → ((n : ℕ) (cause : Failure) → r ≡ Failed n cause → may_fail (tree_of x.text) cause ≡ true)
-    → LegalSoFar s xs max tells history (rs ++ r ∷ [])
-stays_more s xs max tells history rs x r legal stands not_done number rows_ok refused_ok failed_ok = record {
+    → LegalSoFar s xs max known history (rs ++ r ∷ [])
+stays_more s xs max known history rs x r legal stands not_done number rows_ok refused_ok failed_ok = record {
   entries = (λ n e at. let had = legal.entries n e at in record {
     place = had.place;
     statement = had.statement;
@@ -173,11 +173,11 @@ stays_more s xs max tells history rs x r legal stands not_done number rows_ok re
   ]);
   rows = (λ k y n rows at_k reply. elim (slice_get-more rs r k (Rows n rows) reply) [
     | inl old ↦ legal.rows k y n rows at_k old.stands
-    | inr last ↦ subst (λ (z : Statement). Answered z (database_after s history n) max tells rows) (same_at xs (length rs) k x y stands at_k last.at) (rows_ok n rows last.same)
+    | inr last ↦ subst (λ (z : Statement). Answered z (database_after s history n) max known rows) (same_at xs (length rs) k x y stands at_k last.at) (rows_ok n rows last.same)
   ]);
   refused = (λ k y n cause at_k reply. elim (slice_get-more rs r k (Refused n cause) reply) [
     | inl old ↦ legal.refused k y n cause at_k old.stands
-    | inr last ↦ subst (λ (z : Statement). IsRefusedFor z (database_after s history n) max tells cause) (same_at xs (length rs) k x y stands at_k last.at) (refused_ok n cause last.same)
+    | inr last ↦ subst (λ (z : Statement). IsRefusedFor z (database_after s history n) max known cause) (same_at xs (length rs) k x y stands at_k last.at) (refused_ok n cause last.same)
   ]);
   failed = (λ k y n cause at_k reply. elim (slice_get-more rs r k (Failed n cause) reply) [
     | inl old ↦ legal.failed k y n cause at_k old.stands
@@ -197,11 +197,11 @@ same_named s xs one e n k x y at_n at_k names_x names_y =
     same_at xs n k x y at_n at_k (omega arith)
 
 -- a reply Done, whose command is the history's new entry
-commits_more : (s : Script) (xs : List Statement) (max : ℕ) (tells : Bool) → IsOneSession s xs → (before new : Database) (history longer : List Entry) (rs : List Reply) (x : Statement)
+commits_more : (s : Script) (xs : List Statement) (max : ℕ) (known : Type 0) → IsOneSession s xs → (before new : Database) (history longer : List Entry) (rs : List Reply) (x : Statement)
     (at : ℕ) (what : Detail)
-    → before ≡ database_after s history (length history) → LegalSoFar s xs max tells history rs → slice_get xs (length rs) ≡ Some x
-    → Commits x before history at what new longer → LegalSoFar s xs max tells longer (rs ++ Done at what ∷ [])
-commits_more s xs max tells one before new history longer rs x at what is_before legal stands commits =
+    → before ≡ database_after s history (length history) → LegalSoFar s xs max known history rs → slice_get xs (length rs) ≡ Some x
+    → Commits x before history at what new longer → LegalSoFar s xs max known longer (rs ++ Done at what ∷ [])
+commits_more s xs max known one before new history longer rs x at what is_before legal stands commits =
     let e : Entry = commits.entry in
     let r : Reply = Done at what in
     let longer_length : length longer ≡ length history + 1 = rw commits.is_longer (length-more history e) in
@@ -272,49 +272,49 @@ commits_more s xs max tells one before new history longer rs x at what is_before
     }
 
 -- the database at the number that a reply without a change tells
-at_present : (s : Script) (xs : List Statement) (max : ℕ) (tells : Bool) (before new : Database) (history longer : List Entry) (rs : List Reply) (r : Reply)
-    → Kept s xs max tells before history rs → Stays before history (number_of r) new longer → (n : ℕ) → number_of r ≡ n → database_after s history n ≡ before
-at_present s xs max tells before new history longer rs r kept stays n e = rw (sym e, stays.at_is) (sym kept.database)
+at_present : (s : Script) (xs : List Statement) (max : ℕ) (known : Type 0) (before new : Database) (history longer : List Entry) (rs : List Reply) (r : Reply)
+    → Kept s xs max known before history rs → Stays before history (number_of r) new longer → (n : ℕ) → number_of r ≡ n → database_after s history n ≡ before
+at_present s xs max known before new history longer rs r kept stays n e = rw (sym e, stays.at_is) (sym kept.database)
 
 -- one more statement answered without a change
-stays_kept : (s : Script) (xs : List Statement) (max : ℕ) (tells : Bool) (before new : Database) (history longer : List Entry) (rs : List Reply) (x : Statement) (r : Reply)
-    → Kept s xs max tells before history rs → slice_get xs (length rs) ≡ Some x → is_done r ≡ false → Stays before history (number_of r) new longer
-    → ((n : ℕ) (rows : List (List Cell)) → r ≡ Rows n rows → Answered x before max tells rows)
-    → ((n : ℕ) (cause : Refusal) → r ≡ Refused n cause → IsRefusedFor x before max tells cause)
+stays_kept : (s : Script) (xs : List Statement) (max : ℕ) (known : Type 0) (before new : Database) (history longer : List Entry) (rs : List Reply) (x : Statement) (r : Reply)
+    → Kept s xs max known before history rs → slice_get xs (length rs) ≡ Some x → is_done r ≡ false → Stays before history (number_of r) new longer
+    → ((n : ℕ) (rows : List (List Cell)) → r ≡ Rows n rows → Answered x before max known rows)
+    → ((n : ℕ) (cause : Refusal) → r ≡ Refused n cause → IsRefusedFor x before max known cause)
     → ((n : ℕ) (cause : Failure) → r ≡ Failed n cause → may_fail (tree_of x.text) cause ≡ true)
-    → Kept s xs max tells new longer (rs ++ r ∷ [])
-stays_kept s xs max tells before new history longer rs x r kept stands not_done stays rows_ok refused_ok failed_ok =
+    → Kept s xs max known new longer (rs ++ r ∷ [])
+stays_kept s xs max known before new history longer rs x r kept stands not_done stays rows_ok refused_ok failed_ok =
     let below : length rs < length xs = slice_get_within xs (length rs) x stands in record {
       database = rw (stays.same_database, stays.same_history) kept.database;
       short = rw (length-more rs r) (omega arith);
-      legal = rw stays.same_history (stays_more s xs max tells history rs x r kept.legal stands not_done stays.at_is
-          (λ n rows e. rw (at_present s xs max tells before new history longer rs r kept stays n (ap (λ (q : Reply). number_of q) e)) (rows_ok n rows e))
-          (λ n cause e. rw (at_present s xs max tells before new history longer rs r kept stays n (ap (λ (q : Reply). number_of q) e)) (refused_ok n cause e))
+      legal = rw stays.same_history (stays_more s xs max known history rs x r kept.legal stands not_done stays.at_is
+          (λ n rows e. rw (at_present s xs max known before new history longer rs r kept stays n (ap (λ (q : Reply). number_of q) e)) (rows_ok n rows e))
+          (λ n cause e. rw (at_present s xs max known before new history longer rs r kept stays n (ap (λ (q : Reply). number_of q) e)) (refused_ok n cause e))
           failed_ok);
     }
 
 -- one more statement answered as it has to be
-pub kept_next : (s : Script) (xs : List Statement) (max : ℕ) (tells : Bool) (before new : Database) (history longer : List Entry) (rs : List Reply) (x : Statement) (r : Reply)
-    → IsOneSession s xs → Kept s xs max tells before history rs → slice_get xs (length rs) ≡ Some x → Settles x max tells before history r new longer
-    → Kept s xs max tells new longer (rs ++ r ∷ [])
-kept_next s xs max tells before new history longer rs x (Done at what) one kept stands settles = record {
+pub kept_next : (s : Script) (xs : List Statement) (max : ℕ) (known : Type 0) (before new : Database) (history longer : List Entry) (rs : List Reply) (x : Statement) (r : Reply)
+    → IsOneSession s xs → Kept s xs max known before history rs → slice_get xs (length rs) ≡ Some x → Settles x max known before history r new longer
+    → Kept s xs max known new longer (rs ++ r ∷ [])
+kept_next s xs max known before new history longer rs x (Done at what) one kept stands settles = record {
   database = sym (rw (settles.is_longer, database_after-more s history settles.entry, sym kept.database)
       (after_entry-steps s xs one before new settles.entry (length rs) x settles.command stands settles.names settles.is settles.steps));
   short = rw (length-more rs (Done at what)) (let below : length rs < length xs = slice_get_within xs (length rs) x stands in omega arith);
-  legal = commits_more s xs max tells one before new history longer rs x at what kept.database kept.legal stands settles;
+  legal = commits_more s xs max known one before new history longer rs x at what kept.database kept.legal stands settles;
 }
-kept_next s xs max tells before new history longer rs x (Rows at rows) one kept stands settles =
-    stays_kept s xs max tells before new history longer rs x (Rows at rows) kept stands refl settles.0
-    (λ n more e. let same : rows ≡ more = cc in subst (λ (z : List (List Cell)). Answered x before max tells z) same settles.1)
+kept_next s xs max known before new history longer rs x (Rows at rows) one kept stands settles =
+    stays_kept s xs max known before new history longer rs x (Rows at rows) kept stands refl settles.0
+    (λ n more e. let same : rows ≡ more = cc in subst (λ (z : List (List Cell)). Answered x before max known z) same settles.1)
     (λ n cause e. absurd cc)
     (λ n cause e. absurd cc)
-kept_next s xs max tells before new history longer rs x (Refused at cause) one kept stands settles =
-    stays_kept s xs max tells before new history longer rs x (Refused at cause) kept stands refl settles.0
+kept_next s xs max known before new history longer rs x (Refused at cause) one kept stands settles =
+    stays_kept s xs max known before new history longer rs x (Refused at cause) kept stands refl settles.0
     (λ n rows e. absurd cc)
-    (λ n other e. let same : cause ≡ other = cc in subst (λ (z : Refusal). IsRefusedFor x before max tells z) same settles.1)
+    (λ n other e. let same : cause ≡ other = cc in subst (λ (z : Refusal). IsRefusedFor x before max known z) same settles.1)
     (λ n other e. absurd cc)
-kept_next s xs max tells before new history longer rs x (Failed at cause) one kept stands settles =
-    stays_kept s xs max tells before new history longer rs x (Failed at cause) kept stands refl settles.0
+kept_next s xs max known before new history longer rs x (Failed at cause) one kept stands settles =
+    stays_kept s xs max known before new history longer rs x (Failed at cause) kept stands refl settles.0
     (λ n rows e. absurd cc)
     (λ n other e. absurd cc)
     (λ n other e. let same : cause ≡ other = cc in subst (λ (z : Failure). may_fail (tree_of x.text) z ≡ true) same settles.1)
@@ -325,8 +325,8 @@ no_entry zero e at = cc
 no_entry (suc n) e at = cc
 
 -- before the first statement
-pub kept_start : (s : Script) (xs : List Statement) (max : ℕ) (tells : Bool) → Kept s xs max tells empty_database [] []
-kept_start s xs max tells = record {
+pub kept_start : (s : Script) (xs : List Statement) (max : ℕ) (known : Type 0) → Kept s xs max known empty_database [] []
+kept_start s xs max known = record {
   database = refl;
   short = omega arith;
   legal = record {

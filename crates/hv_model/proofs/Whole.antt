@@ -11,7 +11,7 @@ use Rattle.hv_model.specs.declared.catalogue.Database.{Database}
 use Rattle.hv_model.specs.declared.catalogue.Entry.{Entry}
 use Rattle.hv_model.specs.declared.reply.Reply.{Reply}
 use Rattle.hv_model.specs.declared.reply.Reply.TheVariants.{Done, Rows, Refused, Failed}
-use Rattle.hv_model.specs.Legal.{number_of, is_done, is_done_option, reply_to, done_before, Stands, Legal}
+use Rattle.hv_model.specs.Legal.{number_of, is_done, is_done_option, reply_to, done_before, Stands, EachOnce, Legal}
 use Rattle.hv_model.specs.OneSession.{IsOneSession, HasReply, HasEntry, LegalSoFar, Kept}
 use Rattle.hv_model.proofs.SoFar.{statements_one}
 
@@ -20,10 +20,10 @@ pub record IsPlaced (xs : List Statement) (x : Statement) : Type 0 where
   pub place : ℕ
   pub stands : slice_get xs place ≡ Some x
 
-placed : (s : Script) (xs : List Statement) → IsOneSession s xs → (x : Statement) → Stands s x → IsPlaced xs x
+pub placed : (s : Script) (xs : List Statement) → IsOneSession s xs → (x : Statement) → Stands s x → IsPlaced xs x
 placed s xs one x at = record { place = at.0; stands = rw (statements_one s xs one) at at.1 }
 
-stands_at : (s : Script) (xs : List Statement) → IsOneSession s xs → (k : ℕ) (x : Statement) → slice_get xs k ≡ Some x → Stands s x
+pub stands_at : (s : Script) (xs : List Statement) → IsOneSession s xs → (k : ℕ) (x : Statement) → slice_get xs k ≡ Some x → Stands s x
 stands_at s xs one k x at = (k, rw (statements_one s xs one) at)
 
 -- the reply to the statement at a place is the reply at that place
@@ -52,9 +52,9 @@ count_main (x ∷ xs) a of_main =
     = count_main xs (a + 1) (λ k y at. of_main (suc k) y at) in omega arith)
 
 -- the Done replies of the one phase are as many as the entries
-pub done_one : (s : Script) (xs : List Statement) (max : ℕ) (tells : Bool) (now : Database) (history : List Entry) (rs : List Reply)
-    → IsOneSession s xs → Kept s xs max tells now history rs → length rs ≡ length xs → done_before s (rs ∷ []) (0 + 1) ≡ length history
-done_one s xs max tells now history rs one kept all =
+pub done_one : (s : Script) (xs : List Statement) (max : ℕ) (known : Type 0) (now : Database) (history : List Entry) (rs : List Reply)
+    → IsOneSession s xs → Kept s xs max known now history rs → length rs ≡ length xs → done_before s (rs ∷ []) (0 + 1) ≡ length history
+done_one s xs max known now history rs one kept all =
     rw (one.phases, append-nil xs, sym kept.legal.counted)
     (count_same (λ x. is_done_option (reply_to s (rs ∷ []) x)) xs rs 0 all
     (λ k x at. ap (λ (r : Option Reply). is_done_option r) (reply_to-one s xs rs one k x at)))
@@ -83,10 +83,10 @@ replied : (s : Script) (xs : List Statement) (rs : List Reply) → IsOneSession 
 replied s xs rs one k x r at reply = sym (reply_to-one s xs rs one k x at) ∙ reply
 
 -- all statements answered
-pub legal_whole : (s : Script) (xs : List Statement) (max : ℕ) (tells : Bool) (now : Database) (history : List Entry) (rs : List Reply)
-    → IsOneSession s xs → Kept s xs max tells now history rs → length rs ≡ length xs → Legal s max tells history (rs ∷ [])
-legal_whole s xs max tells now history rs one kept all =
-    let legal : LegalSoFar s xs max tells history rs = kept.legal in record {
+pub legal_whole : (s : Script) (xs : List Statement) (max : ℕ) (known : Type 0) (now : Database) (history : List Entry) (rs : List Reply)
+    → IsOneSession s xs → Kept s xs max known now history rs → length rs ≡ length xs → Legal s max known history (rs ∷ [])
+legal_whole s xs max known now history rs one kept all =
+    let legal : LegalSoFar s xs max known history rs = kept.legal in record {
       once = record {
         some = (λ x at. let p : IsPlaced xs x = placed s xs one x at in
             rw (reply_to-one s xs rs one p.place x p.stands) (is_there rs p.place (let h : p.place < length xs = slice_get_within xs p.place x p.stands in omega arith)));
@@ -113,7 +113,7 @@ legal_whole s xs max tells now history rs one kept all =
             let only_one : (p ≡ 0) × (xs ≡ phase) = one_phase s xs one p phase at_p in
             let stands : slice_get xs k ≡ Some x = rw only_one.1 at_k in
             let within : number_of r ≤ length history = legal.within k r (replied s xs rs one k x r stands reply) in
-            rw (only_one.0, done_one s xs max tells now history rs one kept all) (rw (done_none s (rs ∷ [])) (omega arith), within));
+            rw (only_one.0, done_one s xs max known now history rs one kept all) (rw (done_none s (rs ∷ [])) (omega arith), within));
         rows = (λ x n rows at reply. let p : IsPlaced xs x = placed s xs one x at in
             legal.rows p.place x n rows p.stands (replied s xs rs one p.place x (Rows n rows) p.stands reply));
         refused = (λ x n cause at reply. let p : IsPlaced xs x = placed s xs one x at in
@@ -122,3 +122,22 @@ legal_whole s xs max tells now history rs one kept all =
             legal.failed p.place x n cause p.stands (replied s xs rs one p.place x (Failed n cause) p.stands reply));
       };
     }
+
+-- there is a statement below the length
+has_statement : (xs : List Statement) (k : ℕ) → k < length xs → (x : Statement) × (slice_get xs k ≡ Some x)
+has_statement [] k below = absurd (omega arith)
+has_statement (x ∷ xs) zero below = (x, refl)
+has_statement (x ∷ xs) (suc k) below = has_statement xs k (omega arith)
+
+-- with one reply to each statement there are as many replies as statements
+as_many : (s : Script) (xs : List Statement) (rs : List Reply) → IsOneSession s xs → EachOnce s (rs ∷ []) → length rs ≡ length xs
+as_many s xs rs one once =
+    let counts : length rs ∷ [] ≡ (0 + length xs) ∷ [] = rw (one.sessions, statements_one s xs one, count_main xs 0 one.of_main) at once.counts in
+    let same : length rs ≡ 0 + length xs = cc in omega arith
+
+-- and each of them answers the statement at its place
+pub answered_at : (s : Script) (xs : List Statement) (rs : List Reply) → IsOneSession s xs → EachOnce s (rs ∷ []) → (k : ℕ) (r : Reply) → slice_get rs k ≡ Some r
+    → (x : Statement) × (slice_get xs k ≡ Some x) × (reply_to s (rs ∷ []) x ≡ Some r)
+answered_at s xs rs one once k r at =
+    let found = has_statement xs k (omega (arith, as_many s xs rs one once, slice_get_within rs k r at)) in
+    (found.0, found.1, reply_to-one s xs rs one k found.0 found.1 ∙ at)

@@ -1,13 +1,11 @@
 -- Queries that fit the schemas of their places. ISO/IEC 9075, comparison predicate, set function specification and group by clause.
-use Rattle.std.specs.Prelude.{◌≡◌, nat_lt, nat_eq, Bool, true, false, ◌&&◌, List, [], ◌∷◌, length, Option, Some, is_some, slice_get}
-use Rattle.std.specs.List.{list_all, list_any, AllByRecursion}
+use Rattle.std.specs.Prelude.{◌≡◌, nat_lt, nat_eq, Bool, true, false, ◌&&◌, List, length, Option, Some, is_some, slice_get}
+use Rattle.std.specs.List.{list_all, list_any}
 use Rattle.std.specs.Option.{option_map, option_and_then}
-use Rattle.hv_row.specs.declared.value.Value.{Value}
 use Rattle.hv_row.specs.declared.value.ColType.{ColType}
 use Rattle.hv_row.specs.declared.value.ColType.TheVariants as kind
 use Rattle.hv_row.specs.declared.schema.Column.{Column}
 use Rattle.hv_row.specs.Value.{type_of}
-use Rattle.hv_row.specs.Row.{RowFits}
 use Rattle.hv_model.specs.declared.query.ColRef.{ColRef}
 use Rattle.hv_model.specs.declared.query.Operand.{Operand}
 use Rattle.hv_model.specs.declared.query.Operand.TheVariants as operand
@@ -87,15 +85,3 @@ pub record FitsSchemas (schemas : List (List Column)) (q : BoundQuery) : Type 0 
   pub one_place : q.grouped ≡ true → length schemas ≡ 1
   pub grouped : q.grouped ≡ true → list_all (is_grouped_item q.groups) q.items ≡ true
   pub plain : q.grouped ≡ false → list_all is_plain_item q.items ≡ true
-
--- rows of the places, each row under its place's schema
-abbrev pub TablesFit : List (List Column) → List (List (List Value)) → Type 0
-TablesFit [] [] = Unit {0}
-TablesFit (schema ∷ schemas) (rows ∷ places) = AllByRecursion (RowFits schema) rows × TablesFit schemas places
-TablesFit _ _ = ⊥
-
--- a combination that has a row of each place's schema
-abbrev pub ComboFits : List (List Column) → List (List Value) → Type 0
-ComboFits [] [] = Unit {0}
-ComboFits (schema ∷ schemas) (row ∷ rows) = RowFits schema row × ComboFits schemas rows
-ComboFits _ _ = ⊥

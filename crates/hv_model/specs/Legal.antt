@@ -119,19 +119,19 @@ WithinPhases s replies upper =
     (p k : ℕ) (phase : List Statement) (x : Statement) (r : Reply) → slice_get s.phases p ≡ Some phase → slice_get phase k ≡ Some x
     → reply_to s replies x ≡ Some r → (done_before s replies p ≤ number_of r) × (number_of r ≤ upper p)
 
--- the statement has a query at a database; where the files tell what they hold nothing refuses it, and the rows are its answer
-pub record Answered (x : Statement) (s : Database) (max : ℕ) (tells : Bool) (rows : List (List Cell)) : Type 0 where
+-- the statement has a query at a database; where the content of the files is known nothing refuses it, and the rows are its answer
+pub record Answered (x : Statement) (s : Database) (max : ℕ) (known : Type 0) (rows : List (List Cell)) : Type 0 where
   pub query : BoundQuery
   pub is : bound x s ≡ Some query
   pub early : early_refusal x s ≡ None
-  pub allowed : tells ≡ true → refusal x s max ≡ None
-  pub answer : tells ≡ true → IsAnswer query s rows
+  pub allowed : known → refusal x s max ≡ None
+  pub answer : known → IsAnswer query s rows
 
 -- each Rows reply is an answer over the database after as many entries as it tells
-abbrev pub RowsAreAnswers : Script → ℕ → Bool → List Entry → List (List Reply) → Type 0
-RowsAreAnswers s max tells history replies =
+abbrev pub RowsAreAnswers : Script → ℕ → Type 0 → List Entry → List (List Reply) → Type 0
+RowsAreAnswers s max known history replies =
     (x : Statement) (n : ℕ) (rows : List (List Cell)) → Stands s x → reply_to s replies x ≡ Some (reply.Rows n rows)
-    → Answered x (database_after s history n) max tells rows
+    → Answered x (database_after s history n) max known rows
 
 -- a refusal for want of combinations, of a query that is refused where it has none
 pub record IsOverNone (x : Statement) (s : Database) (cause : Refusal) : Type 0 where
@@ -140,16 +140,16 @@ pub record IsOverNone (x : Statement) (s : Database) (cause : Refusal) : Type 0 
   pub means : bound x s ≡ Some query
   pub over_none : is_empty_aggregate query [] ≡ true
 
--- a refusal is the statement's at a database, where the files tell what they hold; over others it is so but for one for want of combinations
-pub record IsRefusedFor (x : Statement) (s : Database) (max : ℕ) (tells : Bool) (cause : Refusal) : Type 0 where
-  pub told : tells ≡ true → refusal x s max ≡ Some cause
+-- a refusal is the statement's at a database, where the content of the files is known; where it is not, so is each but one for want of combinations
+pub record IsRefusedFor (x : Statement) (s : Database) (max : ℕ) (known : Type 0) (cause : Refusal) : Type 0 where
+  pub told : known → refusal x s max ≡ Some cause
   pub cause_is : (early_refusal x s ≡ Some cause) ⊎ IsOverNone x s cause
 
 -- each Refused reply tells the refusal at the database after as many entries as it tells
-abbrev pub RefusalsAreCaused : Script → ℕ → Bool → List Entry → List (List Reply) → Type 0
-RefusalsAreCaused s max tells history replies =
+abbrev pub RefusalsAreCaused : Script → ℕ → Type 0 → List Entry → List (List Reply) → Type 0
+RefusalsAreCaused s max known history replies =
     (x : Statement) (n : ℕ) (cause : Refusal) → Stands s x → reply_to s replies x ≡ Some (reply.Refused n cause)
-    → IsRefusedFor x (database_after s history n) max tells cause
+    → IsRefusedFor x (database_after s history n) max known cause
 
 -- whether a statement with this tree reads pages
 abbrev pub reads_pages : Option Ast → Bool
@@ -175,18 +175,18 @@ FailuresAreCaused s replies =
     → may_fail (tree_of x.text) cause ≡ true
 
 -- what holds of the replies so far, with the greatest number that each phase may have
-pub record LegalUpTo (s : Script) (max : ℕ) (tells : Bool) (upper : ℕ → ℕ) (history : List Entry) (replies : List (List Reply)) : Type 0 where
+pub record LegalUpTo (s : Script) (max : ℕ) (known : Type 0) (upper : ℕ → ℕ) (history : List Entry) (replies : List (List Reply)) : Type 0 where
   pub entries : EntriesAreDone s history replies
   pub done : DoneAreEntries s history replies
   pub steps : EntriesAreSteps s history
   pub along : RisesAlong s replies
   pub phases : WithinPhases s replies upper
-  pub rows : RowsAreAnswers s max tells history replies
-  pub refused : RefusalsAreCaused s max tells history replies
+  pub rows : RowsAreAnswers s max known history replies
+  pub refused : RefusalsAreCaused s max known history replies
   pub failed : FailuresAreCaused s replies
 
--- a legal outcome of a script: one history, and one reply to each statement. All of it holds where the files tell what they hold; over
--- others all but what the rows are and whether there are any
-pub record Legal (s : Script) (max : ℕ) (tells : Bool) (history : List Entry) (replies : List (List Reply)) : Type 0 where
+-- a legal outcome of a script: one history, and one reply to each statement. `known` is the premise that the content of the files is known:
+-- without it all holds but what the rows are and whether there are any
+pub record Legal (s : Script) (max : ℕ) (known : Type 0) (history : List Entry) (replies : List (List Reply)) : Type 0 where
   pub once : EachOnce s replies
-  pub parts : LegalUpTo s max tells (λ p. done_before s replies (p + 1)) history replies
+  pub parts : LegalUpTo s max known (λ p. done_before s replies (p + 1)) history replies

@@ -174,7 +174,7 @@ quoted value = 39 ∷ (doubled value ++ 39 ∷ [])
 
 -- bytes are a token of this sort that a statement may have; of the sort Other there is none
 abbrev pub IsA : Sort → List ℕ → Type 0
-IsA sort.Name bytes = (is_name bytes ≡ true) × (list_all is_name_byte bytes ≡ true)
+IsA sort.Name bytes = is_name bytes ≡ true
 IsA sort.Keyword bytes = is_keyword bytes ≡ true
 IsA sort.Number bytes = is_number bytes ≡ true
 IsA sort.Text bytes = (is_quoted bytes ≡ true) × IsUtf8 bytes

@@ -23,4 +23,3 @@ pub mod Command
 pub mod Legal
 pub mod OneSession
 pub mod Report
-pub mod Words

@@ -1,5 +1,5 @@
 -- A script of one session and one phase, whose statements are answered one after another: what each answer owes, and what holds behind each.
-use Rattle.std.specs.Prelude.{◌≡◌, ℕ, ◌+◌, ◌-◌, ◌<◌, ◌≤◌, Bool, true, List, [], ◌∷◌, ◌++◌, length, Some, Ok, codes, count_by, slice_get}
+use Rattle.std.specs.Prelude.{◌≡◌, ℕ, ◌+◌, ◌-◌, ◌<◌, ◌≤◌, true, List, [], ◌∷◌, ◌++◌, length, Some, Ok, codes, count_by, slice_get}
 use Rattle.hv_model.specs.declared.script.Statement.{Statement}
 use Rattle.hv_model.specs.declared.script.Script.{Script}
 use Rattle.hv_model.specs.declared.catalogue.Database.{Database}
@@ -42,11 +42,11 @@ pub record Stays (before : Database) (history : List Entry) (at : ℕ) (new : Da
   pub at_is : at ≡ length history
 
 -- what the answer to one statement owes: its reply, the database behind it and the history behind it
-abbrev pub Settles : Statement → ℕ → Bool → Database → List Entry → Reply → Database → List Entry → Type 0
-Settles x max tells before history (Done at what) new longer = Commits x before history at what new longer
-Settles x max tells before history (Rows at rows) new longer = Stays before history at new longer × Answered x before max tells rows
-Settles x max tells before history (Refused at cause) new longer = Stays before history at new longer × IsRefusedFor x before max tells cause
-Settles x max tells before history (Failed at cause) new longer = Stays before history at new longer × (may_fail (tree_of x.text) cause ≡ true)
+abbrev pub Settles : Statement → ℕ → Type 0 → Database → List Entry → Reply → Database → List Entry → Type 0
+Settles x max known before history (Done at what) new longer = Commits x before history at what new longer
+Settles x max known before history (Rows at rows) new longer = Stays before history at new longer × Answered x before max known rows
+Settles x max known before history (Refused at cause) new longer = Stays before history at new longer × IsRefusedFor x before max known cause
+Settles x max known before history (Failed at cause) new longer = Stays before history at new longer × (may_fail (tree_of x.text) cause ≡ true)
 
 -- an entry names a statement that has its Done reply
 pub record HasReply (xs : List Statement) (replies : List Reply) (n : ℕ) (e : Entry) : Type 0 where
@@ -64,7 +64,7 @@ pub record HasEntry (history : List Entry) (x : Statement) (n : ℕ) (what : Det
   pub told : entry.what ≡ what
 
 -- what holds of the replies to the first statements: the parts of a legal outcome, by places
-pub record LegalSoFar (s : Script) (xs : List Statement) (max : ℕ) (tells : Bool) (history : List Entry) (replies : List Reply) : Type 0 where
+pub record LegalSoFar (s : Script) (xs : List Statement) (max : ℕ) (known : Type 0) (history : List Entry) (replies : List Reply) : Type 0 where
   pub entries : (n : ℕ) (e : Entry) → entry_at history n ≡ Some e → HasReply xs replies n e
   pub done : (k : ℕ) (x : Statement) (n : ℕ) (what : Detail) → slice_get xs k ≡ Some x → slice_get replies k ≡ Some (Done n what) → HasEntry history x n what
   pub steps : (n : ℕ) (e : Entry) (k : ℕ) (x : Statement) → entry_at history n ≡ Some e → slice_get xs k ≡ Some x → Names e x
@@ -72,15 +72,15 @@ pub record LegalSoFar (s : Script) (xs : List Statement) (max : ℕ) (tells : Bo
   pub along : (j k : ℕ) (r q : Reply) → j < k → slice_get replies j ≡ Some r → slice_get replies k ≡ Some q → FollowsNumber (number_of r) q
   pub within : (k : ℕ) (r : Reply) → slice_get replies k ≡ Some r → number_of r ≤ length history
   pub rows : (k : ℕ) (x : Statement) (n : ℕ) (rows : List (List Cell)) → slice_get xs k ≡ Some x → slice_get replies k ≡ Some (Rows n rows)
-      → Answered x (database_after s history n) max tells rows
+      → Answered x (database_after s history n) max known rows
   pub refused : (k : ℕ) (x : Statement) (n : ℕ) (cause : Refusal) → slice_get xs k ≡ Some x → slice_get replies k ≡ Some (Refused n cause)
-      → IsRefusedFor x (database_after s history n) max tells cause
+      → IsRefusedFor x (database_after s history n) max known cause
   pub failed : (k : ℕ) (x : Statement) (n : ℕ) (cause : Failure) → slice_get xs k ≡ Some x → slice_get replies k ≡ Some (Failed n cause)
       → may_fail (tree_of x.text) cause ≡ true
   pub counted : count_by is_done replies ≡ length history
 
 -- what holds between two statements
-pub record Kept (s : Script) (xs : List Statement) (max : ℕ) (tells : Bool) (now : Database) (history : List Entry) (replies : List Reply) : Type 0 where
+pub record Kept (s : Script) (xs : List Statement) (max : ℕ) (known : Type 0) (now : Database) (history : List Entry) (replies : List Reply) : Type 0 where
   pub database : now ≡ database_after s history (length history)
   pub short : length replies ≤ length xs
-  pub legal : LegalSoFar s xs max tells history replies
+  pub legal : LegalSoFar s xs max known history replies

@@ -1,9 +1,8 @@
 -- The terminals of the grammar: tests of one lexeme. This project's own, after the lexical elements of ISO/IEC 9075.
-use Rattle.std.specs.Prelude.{◌≡◌, ◌≤◌, ℕ, Bool, true, false, ◌&&◌, ◌==◌, ◌^◌, nat_le, nat_lt, List, [], ◌∷◌, Option, Some, None, if◌then◌else◌}
+use Rattle.std.specs.Prelude.{◌≡◌, ◌≤◌, ℕ, Bool, true, false, ◌==◌, ◌^◌, nat_le, nat_lt, List, [], ◌∷◌, Option, Some, None, if◌then◌else◌}
 use Rattle.std.specs.Str.{is_utf8}
 use Rattle.std.specs.Option.{option_map}
-use Rattle.std.specs.List.{list_all}
-use Rattle.hv_model.specs.Token.{is_name, is_name_byte}
+use Rattle.hv_model.specs.Token.{is_name}
 use Rattle.hv_model.specs.declared.lexeme.Lexeme.{Lexeme}
 use Rattle.hv_model.specs.declared.lexeme.What.{What}
 use Rattle.hv_model.specs.declared.lexeme.What.TheVariants as what
@@ -97,7 +96,7 @@ kind t = kind_of t.what
 
 -- whether a text may have this lexeme: a name is one token, a number's value is capped, a text is UTF-8
 abbrev pub may_be : What → Bool
-may_be (what.Name name) = is_name name && list_all is_name_byte name
+may_be (what.Name name) = is_name name
 may_be (what.Number value) = nat_lt value (2 ^ 64)
 may_be (what.Text text) = is_utf8 text
 may_be (what.Symbol _) = true

@@ -42,9 +42,9 @@ abbrev pub begins_as_name : List ℕ → Bool
 begins_as_name [] = false
 begins_as_name (b ∷ _) = begins_name b
 
--- whether a token is a name: it begins as one, has at most 30 bytes and is no keyword
+-- whether bytes are a name: they begin as one, each is a letter, a digit or `_`, they are at most 30 and no keyword
 abbrev pub is_name : List ℕ → Bool
-is_name token = begins_as_name token && nat_le (length token) 30 && not (is_keyword token)
+is_name token = begins_as_name token && list_all is_name_byte token && nat_le (length token) 30 && not (is_keyword token)
 
 -- whether bytes are one digit or more
 abbrev pub is_number : List ℕ → Bool

@@ -1,7 +1,8 @@
 // The catalogue: tables of chunks of rows, and the commands that change it.
-use hv_row::{Bytes, Listed, Rows, Schema};
+use hv_row::{Bytes, Copied, Listed, Rows, Schema};
+use std::alloc::{AllocError, Global};
 
-/// A chunk: its number, which no other chunk ever has, and its rows in order.
+/// A chunk: its number, which no other chunk ever has, and its rows in order. No code builds one: definitions and contracts speak of it.
 #[derive(Debug, Drop)]
 pub struct Chunk {
     pub number: u32,
@@ -11,7 +12,7 @@ pub struct Chunk {
 /// Chunks in a table's order.
 pub type Chunks = Listed<Chunk>;
 
-/// A table: its name, its schema, and its chunks in order.
+/// A table: its name, its schema, and its chunks in order. No code builds one, as no `Chunk`.
 #[derive(Debug, Drop)]
 pub struct Table {
     pub name: Bytes,
@@ -30,7 +31,17 @@ pub struct TableHead {
     pub schema: Schema,
 }
 
-/// A database: its tables, how many chunks were ever made, and how many commands were accepted.
+impl Copied for TableHead {
+    fn copy(&self, alloc: Global) -> Result<TableHead, AllocError> {
+        Ok(TableHead {
+            number: self.number,
+            name: self.name.copy(alloc)?,
+            schema: self.schema.copy(alloc)?,
+        })
+    }
+}
+
+/// A database: its tables, how many chunks were ever made, and how many commands were accepted. No code builds one, as no `Chunk`.
 #[derive(Debug, Drop)]
 pub struct Database {
     pub tables: Tables,
@@ -38,7 +49,7 @@ pub struct Database {
     pub length: u32,
 }
 
-/// A command that changes the catalogue.
+/// A command that changes the catalogue. No code builds one, as no `Chunk`.
 #[derive(Debug, Drop)]
 pub enum Command {
     Create { table: Bytes, schema: Schema },

@@ -101,7 +101,7 @@ pub enum Symbol {
     AtLeast,
 }
 
-/// What a lexeme is.
+/// What a lexeme is. No code builds one: the parser reads tokens, and definitions and contracts speak of lexemes.
 #[derive(Debug, Drop)]
 pub enum What {
     /// A name's bytes.
@@ -116,7 +116,7 @@ pub enum What {
     Other,
 }
 
-/// A lexeme: what it is, and the byte at which it begins in its statement.
+/// A lexeme: what it is, and the byte at which it begins in its statement. No code builds one, as no `What`.
 #[derive(Debug, Drop)]
 pub struct Lexeme {
     pub what: What,

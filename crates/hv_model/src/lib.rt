@@ -21,7 +21,7 @@ pub use query::{
     Places, PlainTables, SortKey, SortKeys,
 };
 pub use reply::{Failure, Refusal, Replies, Reply, Why};
-pub use script::{FaultName, Options, Phase, Phases, Script, ScriptFault, SessionNames, Statement};
+pub use script::{FaultName, Phase, Phases, Script, ScriptFault, SessionNames, Statement};
 pub use token::{
     MAX_NAME_BYTES, begins_name, is_digit, is_name_byte, is_number, is_white, is_word,
 };

@@ -1,7 +1,10 @@
 // Queries whose names are resolved, and the rows that they give.
+ghost use Rattle.std.specs.Prelude.{◌≡◌, IfOk};
+
 use crate::Cmp;
-use hv_row::{Bytes, Listed, Rows, Value};
+use hv_row::{Bytes, Copied, Listed, Rows, Value};
 use sqlite_items::Boxed;
+use std::alloc::{AllocError, Global};
 
 /// A column of a FROM place; both count from 0.
 #[derive(Debug, Clone, Copy, PartialEq, Eq)]
@@ -20,6 +23,15 @@ pub enum Operand {
     Lit(Value),
 }
 
+impl Copied for Operand {
+    fn copy(&self, alloc: Global) -> Result<Operand, AllocError> {
+        match self {
+            Operand::Col(column) => Ok(Operand::Col(*column)),
+            Operand::Lit(value) => Ok(Operand::Lit(value.copy(alloc)?)),
+        }
+    }
+}
+
 /// A condition on a combination of rows.
 #[derive(Debug, Drop)]
 pub enum Cond {
@@ -28,6 +40,38 @@ pub enum Cond {
     All(sqlite_items::Items<Cond>),
     Any(sqlite_items::Items<Cond>),
     Not(Boxed<Cond>),
+}
+
+impl Copied for Cond {
+    fn copy(&self, alloc: Global) -> Result<Cond, AllocError> {
+        copy_cond(alloc, self)
+    }
+}
+
+#[cycle(copy_cond)]
+fn copy_conds(alloc: Global, conds: &[Cond]) -> Result<sqlite_items::Items<Cond>, AllocError>
+    ensures { IfOk result (λ copies. copies ≡ conds.now) }
+{
+    let mut copies = sqlite_items::Items::from_vec(Vec::with_capacity(alloc, conds.len())?);
+    for cond in conds {
+        copies.push(copy_cond(alloc, cond)?)?;
+    }
+    Ok(copies)
+}
+
+#[cycle(copy_cond)]
+fn copy_cond(alloc: Global, cond: &Cond) -> Result<Cond, AllocError>
+    ensures { IfOk result (λ copy. copy ≡ cond.now) }
+{
+    match cond {
+        Cond::Always => Ok(Cond::Always),
+        Cond::Test(left, cmp, right) => {
+            Ok(Cond::Test(left.copy(alloc)?, *cmp, right.copy(alloc)?))
+        }
+        Cond::All(conds) => Ok(Cond::All(copy_conds(alloc, conds.as_slice())?)),
+        Cond::Any(conds) => Ok(Cond::Any(copy_conds(alloc, conds.as_slice())?)),
+        Cond::Not(cond) => Ok(Cond::Not(Boxed::new(alloc, copy_cond(alloc, cond.get())?)?)),
+    }
 }
 
 /// An item of a select list.
@@ -69,6 +113,27 @@ pub struct BoundQuery {
     pub groups: ColRefs,
     pub order: SortKeys,
     pub limit: Option<u64>,
+}
+
+impl Copied for BoundQuery {
+    fn copy(&self, alloc: Global) -> Result<BoundQuery, AllocError> {
+        Ok(BoundQuery {
+            places: copy_plain(alloc, &self.places)?,
+            cond: self.cond.copy(alloc)?,
+            items: copy_plain(alloc, &self.items)?,
+            grouped: self.grouped,
+            groups: copy_plain(alloc, &self.groups)?,
+            order: copy_plain(alloc, &self.order)?,
+            limit: self.limit,
+        })
+    }
+}
+
+// A list of items whose bytes can be moved at once.
+fn copy_plain<T: Copy>(alloc: Global, items: &Listed<T>) -> Result<Listed<T>, AllocError>
+    ensures { IfOk result (λ copy. copy ≡ items.now) }
+{
+    Ok(Listed::from_vec(Vec::from_slice(alloc, items.as_slice())?))
 }
 
 /// A combination: a row of each FROM place.

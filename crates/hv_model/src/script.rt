@@ -49,7 +49,3 @@ pub struct ScriptFault {
     pub name: FaultName,
     pub byte: u32,
 }
-
-/// What the words of the command line choose.
-#[derive(Debug, Clone, Copy, PartialEq, Eq)]
-pub struct Options {}

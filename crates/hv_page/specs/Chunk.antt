@@ -1,5 +1,5 @@
 -- The pages of a chunk: its rows in order, packed greedily. This project's own.
-use Rattle.std.specs.Prelude.{◌≡◌, ℕ, suc, ◌<◌, ◌≤◌, List, [], ◌∷◌, ◌++◌, length, map}
+use Rattle.std.specs.Prelude.{◌≡◌, ℕ, suc, ◌<◌, ◌≤◌, List, [], ◌∷◌, ◌++◌, length, take, map}
 use Rattle.std.specs.List.{AllByRecursion, flat_map}
 use Rattle.sha2.specs.Sha256.{sha256}
 use Rattle.hv_row.specs.declared.value.Value.{Value}
@@ -37,9 +37,10 @@ pub record AreHeapPages (version : ℕ) (schema : List Column) (pages : List (Li
   pub slots : flat_map (λ part. part) parts ≡ map (row_bytes schema) rows
   pub numbered : pages ≡ heap_pages_from version 0 parts
 
--- a chunk of rows: its pages, how many of them are heap pages, how many rows it has, and a digest for each page (SHA-256, FIPS 180-4)
+-- a chunk of rows: its heap pages come first, how many they are, how many rows it has, and a digest for each page (SHA-256, FIPS 180-4)
 pub record IsChunk (version : ℕ) (schema : List Column) (pages : List (List ℕ)) (rows : List (List Value)) (digests : List (List ℕ)) (heap_pages row_count : ℕ) : Type 0 where
-  pub heap : AreHeapPages version schema pages rows
-  pub all : heap_pages ≡ length pages
+  pub within : heap_pages ≤ length pages
+  pub heap : AreHeapPages version schema (take heap_pages pages) rows
+  pub all : length pages ≡ heap_pages
   pub counted : row_count ≡ length rows
   pub digested : digests ≡ map sha256 pages

@@ -2,7 +2,8 @@
 use hv_model::{Entries, Replies};
 use hv_row::{Bytes, Listed};
 
-/// What a run took of the device: tasks begun, reads asked for and calls that handed requests over.
+/// How much a run had under way: `tasks` is the most tasks of one query that were live or lent at one time, `reads` the most
+/// reads that one port had under way at one time, and `submits` the number of reads submitted, summed over the ports.
 #[derive(Debug, Clone, Copy, PartialEq, Eq)]
 pub struct Stats {
     pub tasks: u32,

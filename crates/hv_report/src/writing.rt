@@ -1,10 +1,11 @@
 // A report, written part by part. No call takes memory.
 ghost use Rattle.std.specs.Prelude.{◌≡◌, ◌<◌, ◌++◌, ◌==◌, length, codes, decimal, position, Some, IfErr, IfSome, OnOk};
-ghost use Rattle.std.specs.List.{flat_map};
-ghost use Rattle.hv_io.specs.Bytes.{seen};
+ghost use Rattle.std.specs.List.{All, flat_map};
+ghost use Rattle.hv_io.specs.Seen.{seen};
 ghost use Rattle.hv_io.specs.Printing.{Prints};
 ghost use Rattle.hv_io.specs.Putting.{Stopped, TookAll};
 ghost use Rattle.hv_model.specs.Report.{cell_text, detail_text, entries_text, entry_text, failure_text, history_text, quoted_byte, refusal_text, replies_text, reply_text, row_line, session_text, sessions_text};
+ghost use Rattle.hv_report.specs.Law.{CellInRange, DetailInRange, EntryInRange, FailureInRange, InRange, Is32, Is64, RefusalInRange, ReplyInRange, RowInRange, SessionInRange, StatsInRange};
 ghost use Rattle.hv_report.specs.Text.{names_of, replies_of, stats_text, text_of};
 
 use crate::report::{Report, SessionReport, Stats};
@@ -14,8 +15,9 @@ use itoa::{Buffer, Integer};
 
 /// Writes a report to a sink, a few KiB at a time, up to the first write that fails or takes nothing.
 pub fn write_report<K: Sink>(out: &mut K, report: &Report) -> Result<(), PutAll>
-    ensures all { OnOk result (TookAll (seen K.taken K.faults K.zeros out.old) (text_of report.now) (seen K.taken K.faults K.zeros out.new)) }
-    ensures part { IfErr result (λ cause. Stopped (seen K.taken K.faults K.zeros out.old) (text_of report.now) (seen K.taken K.faults K.zeros out.new) cause) }
+    ensures all { OnOk result (TookAll (seen K.Sink out.old) (text_of report.now) (seen K.Sink out.new)) }
+    ensures part { IfErr result (λ cause. Stopped (seen K.Sink out.old) (text_of report.now) (seen K.Sink out.new) cause) }
+    ensures in_range { InRange report.now }
 {
     let mut printer = Printer::new();
     print_report(&mut printer, out, report);
@@ -23,7 +25,8 @@ pub fn write_report<K: Sink>(out: &mut K, report: &Report) -> Result<(), PutAll>
 }
 
 fn print_report<K: Sink>(printer: &mut Printer, out: &mut K, report: &Report)
-    ensures { Prints (text_of report.now) (seen K.taken K.faults K.zeros out.old) printer.old (seen K.taken K.faults K.zeros out.new) printer.new }
+    ensures prints { Prints (text_of report.now) (seen K.Sink out.old) printer.old (seen K.Sink out.new) printer.new }
+    ensures in_range { InRange report.now }
 {
     print_sessions(printer, out, report.sessions.as_slice());
     print_history(printer, out, report.history.as_slice());
@@ -34,7 +37,8 @@ fn print_report<K: Sink>(printer: &mut Printer, out: &mut K, report: &Report)
 
 // The sessions in order of naming.
 fn print_sessions<K: Sink>(printer: &mut Printer, out: &mut K, sessions: &[SessionReport])
-    ensures { Prints (sessions_text (names_of sessions.now) (replies_of sessions.now)) (seen K.taken K.faults K.zeros out.old) printer.old (seen K.taken K.faults K.zeros out.new) printer.new }
+    ensures prints { Prints (sessions_text (names_of sessions.now) (replies_of sessions.now)) (seen K.Sink out.old) printer.old (seen K.Sink out.new) printer.new }
+    ensures in_range { All SessionInRange sessions.now }
 {
     for session in sessions {
         print_session(
@@ -48,7 +52,9 @@ fn print_sessions<K: Sink>(printer: &mut Printer, out: &mut K, sessions: &[Sessi
 
 // A session; nothing where it has no reply.
 fn print_session<K: Sink>(printer: &mut Printer, out: &mut K, name: &[u8], replies: &[Reply])
-    ensures { Prints (session_text name.now replies.now) (seen K.taken K.faults K.zeros out.old) printer.old (seen K.taken K.faults K.zeros out.new) printer.new }
+    ensures prints { Prints (session_text name.now replies.now) (seen K.Sink out.old) printer.old (seen K.Sink out.new) printer.new }
+    ensures count { Is64 (length replies.now) }
+    ensures in_range { All ReplyInRange replies.now }
 {
     if replies.is_empty() {
         return;
@@ -61,7 +67,8 @@ fn print_session<K: Sink>(printer: &mut Printer, out: &mut K, name: &[u8], repli
 
 // The replies of a session, numbered from 1.
 fn print_replies<K: Sink>(printer: &mut Printer, out: &mut K, replies: &[Reply])
-    ensures { Prints (replies_text 1 replies.now) (seen K.taken K.faults K.zeros out.old) printer.old (seen K.taken K.faults K.zeros out.new) printer.new }
+    ensures prints { Prints (replies_text 1 replies.now) (seen K.Sink out.old) printer.old (seen K.Sink out.new) printer.new }
+    ensures in_range { All ReplyInRange replies.now }
 {
     for (i, reply) in replies.iter().enumerate() {
         print_reply(printer, out, i + 1, reply);
@@ -70,7 +77,8 @@ fn print_replies<K: Sink>(printer: &mut Printer, out: &mut K, replies: &[Reply])
 
 // The reply to the statement of this number.
 fn print_reply<K: Sink>(printer: &mut Printer, out: &mut K, number: usize, reply: &Reply)
-    ensures { Prints (reply_text number reply.now) (seen K.taken K.faults K.zeros out.old) printer.old (seen K.taken K.faults K.zeros out.new) printer.new }
+    ensures prints { Prints (reply_text number reply.now) (seen K.Sink out.old) printer.old (seen K.Sink out.new) printer.new }
+    ensures in_range { ReplyInRange reply.now }
 {
     match reply {
         Reply::Done { at, what } => {
@@ -99,7 +107,7 @@ fn print_reply<K: Sink>(printer: &mut Printer, out: &mut K, number: usize, reply
 
 // What every reply begins with: the statement's number, a word between blanks, and a length of the history.
 fn print_outcome<K: Sink>(printer: &mut Printer, out: &mut K, number: usize, word: &[u8], at: u32)
-    ensures { Prints (decimal number ++ word.now ++ decimal at ++ codes " ") (seen K.taken K.faults K.zeros out.old) printer.old (seen K.taken K.faults K.zeros out.new) printer.new }
+    ensures { Prints (decimal number ++ word.now ++ decimal at ++ codes " ") (seen K.Sink out.old) printer.old (seen K.Sink out.new) printer.new }
 {
     print_number(printer, out, number);
     printer.put(out, word);
@@ -108,7 +116,8 @@ fn print_outcome<K: Sink>(printer: &mut Printer, out: &mut K, number: usize, wor
 }
 
 fn print_refusal<K: Sink>(printer: &mut Printer, out: &mut K, cause: Refusal)
-    ensures { Prints (refusal_text cause) (seen K.taken K.faults K.zeros out.old) printer.old (seen K.taken K.faults K.zeros out.new) printer.new }
+    ensures prints { Prints (refusal_text cause) (seen K.Sink out.old) printer.old (seen K.Sink out.new) printer.new }
+    ensures in_range { RefusalInRange cause }
 {
     match cause {
         Refusal::Unbuilt => printer.put(out, b"unbuilt"),
@@ -127,14 +136,16 @@ fn print_refusal<K: Sink>(printer: &mut Printer, out: &mut K, cause: Refusal)
 
 // A word and a number.
 fn print_numbered<K: Sink>(printer: &mut Printer, out: &mut K, word: &[u8], number: u32)
-    ensures { Prints (word.now ++ decimal number) (seen K.taken K.faults K.zeros out.old) printer.old (seen K.taken K.faults K.zeros out.new) printer.new }
+    ensures prints { Prints (word.now ++ decimal number) (seen K.Sink out.old) printer.old (seen K.Sink out.new) printer.new }
+    ensures in_range { Is32 number }
 {
     printer.put(out, word);
     print_number(printer, out, number);
 }
 
 fn print_failure<K: Sink>(printer: &mut Printer, out: &mut K, cause: Failure)
-    ensures { Prints (failure_text cause) (seen K.taken K.faults K.zeros out.old) printer.old (seen K.taken K.faults K.zeros out.new) printer.new }
+    ensures prints { Prints (failure_text cause) (seen K.Sink out.old) printer.old (seen K.Sink out.new) printer.new }
+    ensures in_range { FailureInRange cause }
 {
     match cause {
         Failure::Read => printer.put(out, b"read"),
@@ -154,7 +165,8 @@ fn print_failure<K: Sink>(printer: &mut Printer, out: &mut K, cause: Failure)
 }
 
 fn print_rows<K: Sink>(printer: &mut Printer, out: &mut K, rows: &[OutRow])
-    ensures { Prints (flat_map row_line rows.now) (seen K.taken K.faults K.zeros out.old) printer.old (seen K.taken K.faults K.zeros out.new) printer.new }
+    ensures prints { Prints (flat_map row_line rows.now) (seen K.Sink out.old) printer.old (seen K.Sink out.new) printer.new }
+    ensures in_range { All RowInRange rows.now }
 {
     for row in rows {
         print_row(printer, out, row.as_slice());
@@ -163,7 +175,8 @@ fn print_rows<K: Sink>(printer: &mut Printer, out: &mut K, rows: &[OutRow])
 
 // A row, with its line feed.
 fn print_row<K: Sink>(printer: &mut Printer, out: &mut K, cells: &[Cell])
-    ensures { Prints (row_line cells.now) (seen K.taken K.faults K.zeros out.old) printer.old (seen K.taken K.faults K.zeros out.new) printer.new }
+    ensures prints { Prints (row_line cells.now) (seen K.Sink out.old) printer.old (seen K.Sink out.new) printer.new }
+    ensures in_range { RowInRange cells.now }
 {
     if let Some((first, more)) = cells.split_first() {
         print_cell(printer, out, first);
@@ -174,7 +187,8 @@ fn print_row<K: Sink>(printer: &mut Printer, out: &mut K, cells: &[Cell])
 
 // Cells behind a first one.
 fn print_more_cells<K: Sink>(printer: &mut Printer, out: &mut K, cells: &[Cell])
-    ensures { Prints (flat_map (λ cell. codes "|" ++ cell_text cell) cells.now) (seen K.taken K.faults K.zeros out.old) printer.old (seen K.taken K.faults K.zeros out.new) printer.new }
+    ensures prints { Prints (flat_map (λ cell. codes "|" ++ cell_text cell) cells.now) (seen K.Sink out.old) printer.old (seen K.Sink out.new) printer.new }
+    ensures in_range { All CellInRange cells.now }
 {
     for cell in cells {
         printer.put(out, b"|");
@@ -183,7 +197,8 @@ fn print_more_cells<K: Sink>(printer: &mut Printer, out: &mut K, cells: &[Cell])
 }
 
 fn print_cell<K: Sink>(printer: &mut Printer, out: &mut K, cell: &Cell)
-    ensures { Prints (cell_text cell.now) (seen K.taken K.faults K.zeros out.old) printer.old (seen K.taken K.faults K.zeros out.new) printer.new }
+    ensures prints { Prints (cell_text cell.now) (seen K.Sink out.old) printer.old (seen K.Sink out.new) printer.new }
+    ensures in_range { CellInRange cell.now }
 {
     match cell {
         Cell::Num(number) => print_number(printer, out, *number),
@@ -197,7 +212,7 @@ fn print_cell<K: Sink>(printer: &mut Printer, out: &mut K, cell: &Cell)
 
 // A text whose quotes are written twice: each run up to a quote is put with it, and the quote again.
 fn print_quoted<K: Sink>(printer: &mut Printer, out: &mut K, text: &[u8])
-    ensures { Prints (flat_map quoted_byte text.now) (seen K.taken K.faults K.zeros out.old) printer.old (seen K.taken K.faults K.zeros out.new) printer.new }
+    ensures { Prints (flat_map quoted_byte text.now) (seen K.Sink out.old) printer.old (seen K.Sink out.new) printer.new }
 {
     let mut rest = text;
     while let Some(at) = quote_place(rest) {
@@ -218,7 +233,9 @@ fn quote_place(text: &[u8]) -> Option<usize>
 }
 
 fn print_history<K: Sink>(printer: &mut Printer, out: &mut K, history: &[Entry])
-    ensures { Prints (history_text history.now) (seen K.taken K.faults K.zeros out.old) printer.old (seen K.taken K.faults K.zeros out.new) printer.new }
+    ensures prints { Prints (history_text history.now) (seen K.Sink out.old) printer.old (seen K.Sink out.new) printer.new }
+    ensures count { Is64 (length history.now) }
+    ensures in_range { All EntryInRange history.now }
 {
     printer.put(out, b"history ");
     print_number(printer, out, history.len());
@@ -228,7 +245,8 @@ fn print_history<K: Sink>(printer: &mut Printer, out: &mut K, history: &[Entry])
 
 // The entries of a history, numbered from 1.
 fn print_entries<K: Sink>(printer: &mut Printer, out: &mut K, history: &[Entry])
-    ensures { Prints (entries_text 1 history.now) (seen K.taken K.faults K.zeros out.old) printer.old (seen K.taken K.faults K.zeros out.new) printer.new }
+    ensures prints { Prints (entries_text 1 history.now) (seen K.Sink out.old) printer.old (seen K.Sink out.new) printer.new }
+    ensures in_range { All EntryInRange history.now }
 {
     for (i, entry) in history.iter().enumerate() {
         print_entry(printer, out, i + 1, entry);
@@ -236,7 +254,8 @@ fn print_entries<K: Sink>(printer: &mut Printer, out: &mut K, history: &[Entry])
 }
 
 fn print_entry<K: Sink>(printer: &mut Printer, out: &mut K, place: usize, entry: &Entry)
-    ensures { Prints (entry_text place entry.now) (seen K.taken K.faults K.zeros out.old) printer.old (seen K.taken K.faults K.zeros out.new) printer.new }
+    ensures prints { Prints (entry_text place entry.now) (seen K.Sink out.old) printer.old (seen K.Sink out.new) printer.new }
+    ensures in_range { EntryInRange entry.now }
 {
     print_number(printer, out, place);
     printer.put(out, b" ");
@@ -250,7 +269,8 @@ fn print_entry<K: Sink>(printer: &mut Printer, out: &mut K, place: usize, entry:
 
 // What an accepted command did.
 fn print_detail<K: Sink>(printer: &mut Printer, out: &mut K, what: &Detail)
-    ensures { Prints (detail_text what.now) (seen K.taken K.faults K.zeros out.old) printer.old (seen K.taken K.faults K.zeros out.new) printer.new }
+    ensures prints { Prints (detail_text what.now) (seen K.Sink out.old) printer.old (seen K.Sink out.new) printer.new }
+    ensures in_range { DetailInRange what.now }
 {
     match what {
         Detail::Create { table } => {
@@ -270,7 +290,8 @@ fn print_detail<K: Sink>(printer: &mut Printer, out: &mut K, what: &Detail)
 
 // The last line.
 fn print_stats<K: Sink>(printer: &mut Printer, out: &mut K, stats: &Stats)
-    ensures { Prints (stats_text (Some stats.now)) (seen K.taken K.faults K.zeros out.old) printer.old (seen K.taken K.faults K.zeros out.new) printer.new }
+    ensures prints { Prints (stats_text (Some stats.now)) (seen K.Sink out.old) printer.old (seen K.Sink out.new) printer.new }
+    ensures in_range { StatsInRange stats.now }
 {
     print_numbered(printer, out, b"stats tasks ", stats.tasks);
     print_numbered(printer, out, b" reads ", stats.reads);
@@ -281,7 +302,7 @@ fn print_stats<K: Sink>(printer: &mut Printer, out: &mut K, stats: &Stats)
 
 // A number in decimal.
 fn print_number<K: Sink, I: Integer>(printer: &mut Printer, out: &mut K, number: I)
-    ensures { Prints (I.text number) (seen K.taken K.faults K.zeros out.old) printer.old (seen K.taken K.faults K.zeros out.new) printer.new }
+    ensures { Prints (I.text number) (seen K.Sink out.old) printer.old (seen K.Sink out.new) printer.new }
 {
     let mut buffer = Buffer::new();
     printer.put(out, buffer.format(number).as_bytes());

@@ -2,6 +2,7 @@ mod Always
 mod Behind
 mod Front
 mod LineCount
+pub mod Names
 pub mod Once
 mod Parts
 mod Source

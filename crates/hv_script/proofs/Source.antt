@@ -35,48 +35,59 @@ read_more (Some bytes) now after all piece n r g =
     }
 
 -- the source has no more
-read_ended : (before now : Option (List ℕ)) (all : List ℕ) → Consumes before now all → IfSome now (λ bytes. bytes ≡ []) → IfSome before (λ bytes. IsRead bytes all)
-read_ended None now all r e = tt
-read_ended (Some bytes) now all r e = record { rest = r.rest; whole = r.whole; ended = λ _. rw r.left at e }
-
-pub read_last : (before now : Option (List ℕ)) (all longer piece : List ℕ) → Consumes before now all → IfSome now (λ bytes. bytes ≡ [])
-    → longer ≡ all ++ take 0 piece → IfSome before (λ bytes. IsRead bytes longer)
-read_last before now all longer piece r e l = rw (l, append-nil) (read_ended before now all r e)
+pub read_last : (before now after : Option (List ℕ)) (all longer piece : List ℕ) → Consumes before now all → Gives now after 0 piece → IfSome now (λ bytes. bytes ≡ [])
+    → longer ≡ all ++ take 0 piece → IfSome before (λ bytes. IsRead bytes after longer)
+read_last None now after all longer piece r g e l = tt
+read_last (Some bytes) now after all longer piece r g e l =
+    let given : Given r.rest after 0 piece = rw r.left at g in
+    let none : r.rest ≡ [] = rw r.left at e in
+    record {
+      read = record { rest = r.rest; whole = rw (l, append-nil) r.whole; left = given.rest };
+      ended = λ _. given.rest ∙ ap (λ xs. Some xs) none;
+    }
 
 -- more than a script has was read
-pub read_long : (before now : Option (List ℕ)) (all : List ℕ) → Consumes before now all → most_bytes < length all → IfSome before (λ bytes. IsRead bytes all)
+pub read_long : (before now : Option (List ℕ)) (all : List ℕ) → Consumes before now all → most_bytes < length all → IfSome before (λ bytes. IsRead bytes now all)
 read_long None now all r h = tt
-read_long (Some bytes) now all r h = record { rest = r.rest; whole = r.whole; ended = λ short. absurd (omega arith) }
+read_long (Some bytes) now all r h = record { read = r; ended = λ short. absurd (omega arith) }
 
 -- where no more than a script has was read, all was read
-all_read : (bytes all : List ℕ) → IsRead bytes all → length all ≤ most_bytes → all ≡ bytes
-all_read bytes all r h = sym (r.whole ∙ rw (r.ended h) (append-nil all))
+all_read : (bytes : List ℕ) (now : Option (List ℕ)) (all : List ℕ) → IsRead bytes now all → length all ≤ most_bytes → all ≡ bytes
+all_read bytes now all r h =
+    let none : r.read.rest ≡ [] = (let same : Some r.read.rest ≡ Some [] = sym r.read.left ∙ r.ended h in cc) in
+    sym (r.read.whole ∙ rw none (append-nil all))
 
 -- the script of what was read
-pub script_read : (before : Option (List ℕ)) (all : List ℕ) (s : Script) → IfSome before (λ bytes. IsRead bytes all) → IsScript all s → IfSome before (λ bytes. IsScript bytes s)
-script_read None all s r i = tt
-script_read (Some bytes) all s r i = subst (λ xs. IsScript xs s) (all_read bytes all r i.short) i
+pub script_read : (before now : Option (List ℕ)) (all : List ℕ) (s : Script) → IfSome before (λ bytes. IsRead bytes now all) → IsScript all s → IfSome before (λ bytes. IsScript bytes s)
+script_read None now all s r i = tt
+script_read (Some bytes) now all s r i = subst (λ xs. IsScript xs s) (all_read bytes now all r i.short) i
+
+-- and no more is left
+pub none_left : (before now : Option (List ℕ)) (all : List ℕ) (s : Script) → IfSome before (λ bytes. IsRead bytes now all) → IsScript all s → IfSome before (λ _. now ≡ Some [])
+none_left None now all s r i = tt
+none_left (Some bytes) now all s r i = r.ended i.short
 
 -- the fault of what was read
-fault_all : (bytes all : List ℕ) (name : FaultName) (byte : ℕ) → IsRead bytes all → IsFault all name byte → IsFault bytes name byte
-fault_all bytes all TooLong byte r f =
-    let n : length bytes ≡ length all + length r.rest = ap length r.whole ∙ length-append all r.rest in
+fault_all : (bytes : List ℕ) (now : Option (List ℕ)) (all : List ℕ) (name : FaultName) (byte : ℕ) → IsRead bytes now all → IsFault all name byte → IsFault bytes name byte
+fault_all bytes now all TooLong byte r f =
+    let n : length bytes ≡ length all + length r.read.rest = ap length r.read.whole ∙ length-append all r.read.rest in
     let long : most_bytes < length all = f.0 in
     (omega arith, f.1)
-fault_all bytes all NotUtf8 byte r f = subst (λ xs. IsNotUtf8 xs byte) (all_read bytes all r f.short) f
-fault_all bytes all Unended byte r f = subst (λ xs. IsUnended xs byte) (all_read bytes all r f.front.short) f
-fault_all bytes all LongImport byte r f = subst (λ xs. IsLongImport xs byte) (all_read bytes all r f.follows.front.short) f
-fault_all bytes all ShortImport byte r f = subst (λ xs. IsShortImport xs byte) (all_read bytes all r f.follows.front.short) f
-fault_all bytes all TooManyStatements byte r f = subst (λ xs. IsOneTooMany xs byte) (all_read bytes all r f.follows.front.short) f
+fault_all bytes now all NotUtf8 byte r f = subst (λ xs. IsNotUtf8 xs byte) (all_read bytes now all r f.short) f
+fault_all bytes now all Unended byte r f = subst (λ xs. IsUnended xs byte) (all_read bytes now all r f.front.short) f
+fault_all bytes now all LongImport byte r f = subst (λ xs. IsLongImport xs byte) (all_read bytes now all r f.follows.front.short) f
+fault_all bytes now all ShortImport byte r f = subst (λ xs. IsShortImport xs byte) (all_read bytes now all r f.follows.front.short) f
+fault_all bytes now all TooManyStatements byte r f = subst (λ xs. IsOneTooMany xs byte) (all_read bytes now all r f.follows.front.short) f
 
-if_fault : (before : Option (List ℕ)) (all : List ℕ) (name : FaultName) (byte : ℕ) → IfSome before (λ bytes. IsRead bytes all) → IsFault all name byte → IfSome before (λ bytes. IsFault bytes name byte)
-if_fault None all name byte r f = tt
-if_fault (Some bytes) all name byte r f = fault_all bytes all name byte r f
+if_fault : (before now : Option (List ℕ)) (all : List ℕ) (name : FaultName) (byte : ℕ) → IfSome before (λ bytes. IsRead bytes now all) → IsFault all name byte
+    → IfSome before (λ bytes. IsFault bytes name byte)
+if_fault None now all name byte r f = tt
+if_fault (Some bytes) now all name byte r f = fault_all bytes now all name byte r f
 
-pub fault_read : (before : Option (List ℕ)) (all : List ℕ) (fault : BytesFault) → IfSome before (λ bytes. IsRead bytes all) → IsFaultOf all fault
+pub fault_read : (before now : Option (List ℕ)) (all : List ℕ) (fault : BytesFault) → IfSome before (λ bytes. IsRead bytes now all) → IsFaultOf all fault
     → IfFound (as_read fault) (λ found. IfSome before (λ bytes. IsFault bytes found.name found.byte))
-fault_read before all (Found found) r f = if_fault before all found.name found.byte r f
-fault_read before all Memory r f = tt
+fault_read before now all (Found found) r f = if_fault before now all found.name found.byte r f
+fault_read before now all Memory r f = tt
 
 -- each statement has its number
 statement_at : (bytes : List ℕ) (k : ℕ) (xs : List Statement) (rest : List ℕ) → Statements bytes k xs rest → (i : ℕ) (x : Statement) → slice_get xs i ≡ Some x → (x.session ≡ codes "main") × (x.number ≡ i + k)
@@ -123,7 +134,7 @@ one_session bytes s i = record {
 }
 
 -- the fault that is told of what was read
-pub fault_of : (result : Result Script ReadScriptFault) (before : Option (List ℕ)) (all : List ℕ) (fault : BytesFault) → IsErrAnd result (λ e. e ≡ as_read fault)
-    → IfSome before (λ bytes. IsRead bytes all) → IsFaultOf all fault → IfErr result (λ e. IfFound e (λ found. IfSome before (λ bytes. IsFault bytes found.name found.byte)))
-fault_of (Ok s) before all fault e r f = tt
-fault_of (Err x) before all fault e r f = let same : x ≡ as_read fault = e in rw same (fault_read before all fault r f)
+pub fault_of : (result : Result Script ReadScriptFault) (before now : Option (List ℕ)) (all : List ℕ) (fault : BytesFault) → IsErrAnd result (λ e. e ≡ as_read fault)
+    → IfSome before (λ bytes. IsRead bytes now all) → IsFaultOf all fault → IfErr result (λ e. IfFound e (λ found. IfSome before (λ bytes. IsFault bytes found.name found.byte)))
+fault_of (Ok s) before now all fault e r f = tt
+fault_of (Err x) before now all fault e r f = let same : x ≡ as_read fault = e in rw same (fault_read before now all fault r f)

@@ -3,3 +3,4 @@ pub mod Next
 pub mod OneReading
 pub mod Reading
 pub mod Script
+pub mod Words

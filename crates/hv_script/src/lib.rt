@@ -18,4 +18,4 @@ pub use law::one_reading;
 pub use reading::{PIECE_BYTES, read_script};
 pub use script::{MOST_BYTES, MOST_STATEMENTS, read_statements};
 pub use statement::MAX_IMPORT_LINES;
-pub use words::read_words;
+pub use words::{Options, read_words};

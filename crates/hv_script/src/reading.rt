@@ -1,5 +1,5 @@
 // Reading a script from a source.
-ghost use Rattle.std.specs.Prelude.{◌≡◌, ℕ, ◌+◌, ◌<◌, ◌≤◌, List, [], length, Option, IfSome, IfOk, OnOk, IfErr, vec_len};
+ghost use Rattle.std.specs.Prelude.{◌≡◌, ℕ, ◌+◌, ◌<◌, ◌≤◌, List, [], length, Option, Some, IfSome, IfOk, OnOk, IfErr, vec_len};
 ghost use Rattle.hv_io.specs.Bytes.{Consumes};
 ghost use Rattle.hv_model.specs.Script.{IsScript, IsFault};
 ghost use Rattle.hv_script.specs.Fault.{CountsFaults, IfFound};
@@ -20,6 +20,7 @@ pub const PIECE_BYTES: usize = 65_536;
 /// `Err` is the first fault of the bytes, `Source` where a read failed, or `Memory` for want of memory at any point.
 pub fn read_script<S: Source>(alloc: Global, source: &mut S) -> Result<Script, ReadScriptFault>
     ensures script { IfOk result (λ script. IfSome (S.left source.old) (λ bytes. IsScript bytes script)) }
+    ensures ended { IfOk result (λ _. IfSome (S.left source.old) (λ _. S.left source.new ≡ Some [])) }
     ensures one_session { IfOk result (λ script. HasOneSession script) }
     ensures found { IfErr result (λ fault. IfFound fault (λ found. IfSome (S.left source.old) (λ bytes. IsFault bytes found.name found.byte))) }
     ensures counted { CountsFaults result (S.faults source.old) (S.faults source.new) }
@@ -30,7 +31,7 @@ pub fn read_script<S: Source>(alloc: Global, source: &mut S) -> Result<Script, R
 
 // All bytes of the source; of more than a script has, one byte more than that.
 fn read_all<S: Source>(alloc: Global, source: &mut S) -> Result<Vec<u8>, ReadScriptFault>
-    ensures all { IfOk result (λ all. IfSome (S.left source.old) (λ bytes. IsRead bytes all.items)) }
+    ensures all { IfOk result (λ all. IfSome (S.left source.old) (λ bytes. IsRead bytes (S.left source.new) all.items)) }
     ensures unread { IfErr result (λ fault. IfFound fault (λ _. ⊥)) }
     ensures counted { CountsFaults result (S.faults source.old) (S.faults source.new) }
 {
@@ -55,7 +56,7 @@ fn read_piece<S: Source>(
     ensures longer { IfOk result (λ n. vec_len all.new ≡ vec_len all.old + n) }
     ensures within { IfOk result (λ n. n ≤ length piece.old) }
     ensures known { (before : Option (List ℕ)) → Consumes before (S.left source.old) all.old.items → OnOk result (Consumes before (S.left source.new) all.new.items) }
-    ensures end { (before : Option (List ℕ)) → Consumes before (S.left source.old) all.old.items → IfOk result (λ n. n ≡ 0 → IfSome before (λ bytes. IsRead bytes all.new.items)) }
+    ensures end { (before : Option (List ℕ)) → Consumes before (S.left source.old) all.old.items → IfOk result (λ n. n ≡ 0 → IfSome before (λ bytes. IsRead bytes (S.left source.new) all.new.items)) }
     ensures unread { IfErr result (λ fault. IfFound fault (λ _. ⊥)) }
     ensures counted { CountsFaults result (S.faults source.old) (S.faults source.new) }
 {

@@ -1,10 +1,10 @@
 // Scripts with what is read of them, sources that give little or fail, and the words.
 use crate::{
-    BytesFault, MOST_BYTES, MOST_STATEMENTS, ReadScriptFault, one_reading, read_script,
+    BytesFault, MOST_BYTES, MOST_STATEMENTS, Options, ReadScriptFault, one_reading, read_script,
     read_statements, read_words,
 };
 use hv_io::MemSource;
-use hv_model::{FaultName, Options, Script, ScriptFault};
+use hv_model::{FaultName, Script, ScriptFault};
 use hv_row::{Bytes, Listed};
 use std::alloc::{AllocError, Global};
 use std::test::Fail;

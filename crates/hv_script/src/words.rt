@@ -1,10 +1,13 @@
 // The words of the command line.
 ghost use Rattle.std.specs.Prelude.{◌≡◌, codes};
 ghost use Rattle.hv_row.specs.Schema.{same_name};
-ghost use Rattle.hv_model.specs.Words.{options};
+ghost use Rattle.hv_script.specs.Words.{options};
 
-use hv_model::Options;
 use hv_row::Bytes;
+
+/// What the words of the command line choose.
+#[derive(Debug, Clone, Copy, PartialEq, Eq)]
+pub struct Options {}
 
 /// What the words choose, read for `serve` or for `run`; `Err` is the number of the first word at fault, counted from 1.
 /// Of no word at all the first is at fault. Takes no memory.

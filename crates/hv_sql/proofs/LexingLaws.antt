@@ -7,7 +7,7 @@ use Rattle.std.proofs.lemmas.Str.{IsUtf8-from_is_utf8, is_utf8-from_IsUtf8}
 use Rattle.hv_model.specs.declared.lexeme.Sort.{Sort}
 use Rattle.hv_model.specs.declared.lexeme.Sort.TheVariants.{Name, Keyword, Number, Text, Symbol, Other}
 use Rattle.hv_model.specs.declared.lexeme.Token.{Token}
-use Rattle.hv_model.specs.Token.{is_white, is_name_byte, begins_as_name, is_keyword, is_number}
+use Rattle.hv_model.specs.Token.{is_white, is_keyword, is_number}
 use Rattle.hv_model.specs.Lexemes.{is_run, is_text, is_quoted, closes, is_symbol, is_lexeme, longest, token_length, sort_of, token_at, tokens_from, tokens_of, unquoted, text_value, doubled, quoted, IsA, IsOf, IsLongest, InOrder, WhiteBetween, EachToken}
 use Rattle.hv_sql.proofs.LexingLengths.{token_length_some, token_length_within}
 use Rattle.hv_sql.proofs.LexingSorts.{choice, sort_is, keyword_run}
@@ -101,22 +101,19 @@ nothing_lost text = white_between text text 0 0 refl (omega arith)
 
 -- of its sort
 
-run_from : (bytes : List ℕ) → begins_as_name bytes ≡ true → list_all is_name_byte bytes ≡ true → is_run bytes ≡ true
-unfolding is_run
-run_from bytes begins all = and_from _ _ begins all
-
 name_of_run : (bytes : List ℕ) → is_run bytes ≡ true → nat_le (length bytes) 30 ≡ true → is_keyword bytes ≡ false → IsA Name bytes
 unfolding is_run
 name_of_run bytes run short k =
-    let parts = and_parts (begins_as_name bytes) (list_all is_name_byte bytes) run in
-    (and_from (begins_as_name bytes && nat_le (length bytes) 30) (not (is_keyword bytes)) (and_from _ _ parts.0 short) (ap not k), parts.1)
+    and_from (is_run bytes && nat_le (length bytes) 30) (not (is_keyword bytes)) (and_from _ _ run short) (ap not k)
+
+-- a name is a run of at most 30 bytes
+run_of_name : (bytes : List ℕ) → IsA Name bytes → (is_run bytes && nat_le (length bytes) 30) ≡ true
+unfolding is_run
+run_of_name bytes is = (and_parts (is_run bytes && nat_le (length bytes) 30) (not (is_keyword bytes)) is).0
 
 sort_other : (bytes : List ℕ) → is_keyword bytes ≡ false → (is_run bytes && nat_le (length bytes) 30) ≡ false → is_number bytes ≡ false → is_text bytes ≡ false → is_symbol bytes ≡ false
     → (s : Sort) → IsA s bytes → ⊥
-sort_other bytes k w n t m Name is =
-    let parts = and_parts (begins_as_name bytes && nat_le (length bytes) 30) (not (is_keyword bytes)) is.0 in
-    let first = and_parts (begins_as_name bytes) (nat_le (length bytes) 30) parts.0 in
-    both_ways _ w (and_from _ _ (run_from bytes first.0 is.1) first.1)
+sort_other bytes k w n t m Name is = both_ways _ w (run_of_name bytes is)
 sort_other bytes k w n t m Keyword is = both_ways (is_keyword bytes) k is
 sort_other bytes k w n t m Number is = both_ways (is_number bytes) n is
 sort_other bytes k w n t m Text is = both_ways _ t (and_from _ _ is.0 (is_utf8-from_IsUtf8 bytes is.1))
@@ -146,9 +143,8 @@ of_its_sort bytes =
 pub lexeme_of : (s : Sort) (bytes : List ℕ) → IsA s bytes → is_lexeme bytes ≡ true
 unfolding is_lexeme
 lexeme_of Name bytes is =
-    let parts = and_parts (begins_as_name bytes && nat_le (length bytes) 30) (not (is_keyword bytes)) is.0 in
-    let first = and_parts (begins_as_name bytes) (nat_le (length bytes) 30) parts.0 in
-    or_left _ (is_symbol bytes) (or_left _ (is_quoted bytes) (or_left (is_run bytes) (is_number bytes) (run_from bytes first.0 is.1)))
+    let run = (and_parts (is_run bytes) (nat_le (length bytes) 30) (run_of_name bytes is)).0 in
+    or_left _ (is_symbol bytes) (or_left _ (is_quoted bytes) (or_left (is_run bytes) (is_number bytes) run))
 lexeme_of Keyword bytes is = or_left _ (is_symbol bytes) (or_left _ (is_quoted bytes) (or_left (is_run bytes) (is_number bytes) (keyword_run bytes is)))
 lexeme_of Number bytes is = or_left _ (is_symbol bytes) (or_left _ (is_quoted bytes) (or_right (is_run bytes) (is_number bytes) is))
 lexeme_of Text bytes is = or_left _ (is_symbol bytes) (or_right (is_run bytes || is_number bytes) (is_quoted bytes) is.0)

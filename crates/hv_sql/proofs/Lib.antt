@@ -20,6 +20,7 @@ pub mod LexingSorts
 pub mod LexingSteps
 pub mod LexingWords
 pub mod Standing
+pub mod Names
 mod Boundary
 mod Cut
 mod Spelt

@@ -1,9 +1,9 @@
 -- Lexemes are one statement or have one fault, and the reading gives it.
-use Rattle.std.proofs.Common.{◌≡◌, ◌⊎◌, ℕ, true, ◌&&◌, List, [], ◌∷◌, ◌++◌, refl, sym, ◌∙◌, ap, subst, inl, inr, append-nil, append_assoc}
+use Rattle.std.proofs.Common.{◌≡◌, ◌⊎◌, ℕ, true, List, [], ◌∷◌, ◌++◌, refl, sym, ◌∙◌, ap, subst, inl, inr, append-nil, append_assoc}
 use Rattle.std.specs.Prelude.{Result, Ok, Err}
 use Rattle.std.specs.List.{list_all}
 use Rattle.std.proofs.lemmas.Bool.{and_parts, eqb-true, false≢true}
-use Rattle.hv_model.specs.Token.{is_name, is_name_byte}
+use Rattle.hv_model.specs.Token.{is_name}
 use Rattle.hv_model.specs.declared.lexeme.Lexeme.{Lexeme}
 use Rattle.hv_model.specs.declared.lexeme.What.{What}
 use Rattle.hv_model.specs.declared.lexeme.What.TheVariants as what
@@ -99,9 +99,9 @@ plain_fault lexemes at h = go (statement_at lexemes) refl h
     go (Err us) e f = there us e (err_is us at f)
 
 -- such words may be in a text
-name_real : (name : List ℕ) → is_a name ≡ true → (is_name name && list_all is_name_byte name) ≡ true
+name_real : (name : List ℕ) → is_a name ≡ true → is_name name ≡ true
 name_real [] e = absurd (false≢true e)
-name_real (b ∷ []) e = ap (λ (x : ℕ). is_name (x ∷ []) && list_all is_name_byte (x ∷ [])) (eqb-true b 97 e)
+name_real (b ∷ []) e = ap (λ (x : ℕ). is_name (x ∷ [])) (eqb-true b 97 e)
 name_real (b ∷ c ∷ bs) e = absurd (false≢true e)
 
 word_real : (w : What) → is_plain w ≡ true → may_be w ≡ true

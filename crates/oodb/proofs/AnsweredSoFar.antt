@@ -1,26 +1,31 @@
 -- What holds before each statement is answered.
-use Rattle.std.proofs.Common.{◌≡◌, ◌<◌, ◌≤◌, ◌+◌, ℕ, Bool, List, [], ◌∷◌, ◌++◌, length, min, Some, refl, ◌∙◌, arith, length-append}
+use Rattle.std.proofs.Common.{◌≡◌, ◌<◌, ◌≤◌, ◌+◌, ℕ, Bool, List, [], ◌∷◌, ◌++◌, length, min, Some, refl, sym, subst, arith, length-append}
 use Rattle.std.specs.List.{slice_get}
 use Rattle.std.proofs.lemmas.List.Sums.{count_by-le-length}
 use Rattle.hv_model.specs.declared.script.Statement.{Statement}
 use Rattle.hv_model.specs.declared.script.Script.{Script}
+use Rattle.hv_model.specs.declared.catalogue.Database.{Database}
 use Rattle.hv_model.specs.declared.catalogue.Entry.{Entry}
 use Rattle.hv_model.specs.declared.reply.Reply.{Reply}
 use Rattle.hv_model.specs.Database.{most_entries, empty_database}
 use Rattle.hv_model.specs.Legal.{is_done}
 use Rattle.hv_model.specs.OneSession.{IsOneSession, Kept, Settles}
 use Rattle.hv_model.proofs.SoFar.{kept_next, kept_start}
+use Rattle.hv_model.proofs.Premises.{settles_under, kept_under}
 use Rattle.oodb.specs.declared.store.Store.{Store}
-use Rattle.oodb.specs.Stored.{database_of, IsSound}
-use Rattle.oodb.specs.Reads.{PortSeen, IsIdle, GoesOn, fresh_port}
+use Rattle.oodb.specs.Stored.{database_of, IsSound, AreFiles, HasFiles}
+use Rattle.oodb.specs.Known.{DatabaseIsKnown, Known}
+use Rattle.oodb.specs.Reads.{PortSeen, GoesOn, fresh_port}
 use Rattle.oodb.specs.Damage.{RepliedBy}
 use Rattle.oodb.specs.Causes.{CausedSoFar}
-use Rattle.oodb.proofs.Causing.{caused_next, caused_start}
+use Rattle.oodb.proofs.Knowing.{known_sooner, known_now}
+use Rattle.oodb.proofs.Causing.{history_kept, caused_next, caused_start}
 
 -- the first statements are answered, the store is what their commands left, their failures stand on what the port did, and there is room for what is to come
 pub record SoFar {File : Type 0} (tells : Bool) (pages : File → List (List ℕ)) (s : Script) (xs : List Statement) (at : ℕ) (now : Store File) (history : List Entry) (entries : ℕ) (replies : List Reply) (most : ℕ) (port : PortSeen File) : Type 0 where
-  pub kept : (max : ℕ) → Kept s xs max tells (database_of now) history replies
+  pub kept : (max : ℕ) → Kept s xs max (Known tells s history port.reading.landings) (database_of now) history replies
   pub causes : CausedSoFar tells s history replies port
+  pub are : AreFiles now causes.files
   pub counted : now.length ≡ length history
   pub sound : IsSound tells pages now
   pub answered : length replies ≡ at
@@ -45,15 +50,30 @@ has_room tells pages s xs at now history entries replies most port so_far below 
 -- one more statement is answered
 pub so_far_next : {File : Type 0} (tells : Bool) (pages : File → List (List ℕ)) (s : Script) (xs : List Statement) (at : ℕ) (now new : Store File) (history longer : List Entry) (entries more : ℕ) (replies : List Reply) (most : ℕ) (port after : PortSeen File) (x : Statement) (r : Reply)
     → IsOneSession s xs → SoFar tells pages s xs at now history entries replies most port → slice_get xs at ≡ Some x
-    → ((max : ℕ) → Settles x max tells (database_of now) history r (database_of new) longer) → RepliedBy tells (database_of now) port after r → GoesOn port after
+    → ((max : ℕ) → Settles x max (DatabaseIsKnown tells (database_of now) after.reading.landings) (database_of now) history r (database_of new) longer)
+    → ((files : List File) → AreFiles now files → RepliedBy tells (database_of now) files port after r) → ((files : List File) → AreFiles now files → HasFiles new files) → GoesOn port after
     → IsSound tells pages new → new.length ≡ length longer → entries ≤ more
     → SoFar tells pages s xs (at + 1) new longer more (replies ++ r ∷ []) most after
-so_far_next tells pages s xs at now new history longer entries more replies most port after x r one so_far stands settles by goes sound counted wider =
+so_far_next {File} tells pages s xs at now new history longer entries more replies most port after x r one so_far stands settles by more_files goes sound counted wider =
     let answered : length replies ≡ at = so_far.answered in
     let entries_fit : min (length xs) most_entries ≤ entries = so_far.entries_fit in
+    let was = Known tells s history port.reading.landings in
+    let known = Known tells s longer after.reading.landings in
+    let here = DatabaseIsKnown tells (database_of now) after.reading.landings in
+    let same = history_kept s x 0 here (database_of now) (database_of new) history longer r (settles 0) in
+    let sooner : known → was = known_sooner tells s history longer port.reading.landings goes.reads.more after.reading.landings goes.reads.landed same in
+    let kept : (max : ℕ) → Kept s xs max known (database_of now) history replies = (λ max. kept_under known was sooner s xs max (database_of now) history replies (so_far.kept max)) in
+    let present : known → here = known_now tells s (database_of now) history longer after.reading.landings (so_far.kept 0).database same in
+    let owed : (max : ℕ) → Settles x max known (database_of now) history r (database_of new) longer = (λ max. settles_under known here present x max (database_of now) history r (database_of new) longer (settles max)) in
+    let next : (max : ℕ) → Kept s xs max known (database_of new) longer (replies ++ r ∷ []) =
+    (λ max. kept_next s xs max known (database_of now) (database_of new) history longer replies x r one (kept max) (rw answered stands) (owed max)) in
+    let files = more_files so_far.causes.files so_far.are in
+    let over = caused_next tells s xs x 0 known (database_of now) (database_of new) history longer replies r port after files.more (kept 0) so_far.causes (owed 0) (next 0).database
+    files.are.count (by so_far.causes.files so_far.are) goes in
     record {
-      kept = (λ max. kept_next s xs max tells (database_of now) (database_of new) history longer replies x r one (so_far.kept max) (rw answered stands) (settles max));
-      causes = caused_next tells s xs x 0 (database_of now) (database_of new) history longer replies r port after (so_far.kept 0) so_far.causes (settles 0) by goes;
+      kept = next;
+      causes = over.causes;
+      are = subst (λ (all : List File). AreFiles new all) (sym over.files_are) files.are;
       counted = counted;
       sound = sound;
       answered = omega (arith, length-append replies (r ∷ []));
@@ -63,18 +83,17 @@ so_far_next tells pages s xs at now new history longer entries more replies most
 
 -- before the first statement
 pub so_far_start : {File : Type 0} (tells : Bool) (pages : File → List (List ℕ)) (s : Script) (xs : List Statement) (now : Store File) (history : List Entry) (entries : ℕ) (replies : List Reply) (most : ℕ) (port : PortSeen File)
-    → database_of now ≡ empty_database → IsSound tells pages now → now.length ≡ 0 → history ≡ [] → replies ≡ [] → min (length xs) most_entries ≤ entries → length xs ≤ most → IsIdle port
+    → database_of now ≡ empty_database → IsSound tells pages now → AreFiles now [] → now.length ≡ 0 → history ≡ [] → replies ≡ [] → min (length xs) most_entries ≤ entries → length xs ≤ most → port ≡ fresh_port File
     → SoFar tells pages s xs 0 now history entries replies most port
-so_far_start tells pages s xs now history entries replies most port empty sound short no_entry no_reply entries_fit replies_fit idle = record {
-  kept = (λ max. rw (empty, no_entry, no_reply) (kept_start s xs max tells));
-  causes = rw (no_entry, no_reply) (caused_start tells s port idle);
-  counted = short ∙ rw no_entry refl;
-  sound = sound;
-  answered = rw no_reply refl;
-  entries_fit = entries_fit;
-  replies_fit = replies_fit;
-}
-
--- a port that has done nothing yet is idle
-pub fresh_idle : {File : Type 0} (port : PortSeen File) → port ≡ fresh_port File → IsIdle port
-fresh_idle port is = rw is (record { room = omega arith; none = refl; empty = refl })
+so_far_start {File} tells pages s xs now history entries replies most port empty sound files short no_entry no_reply entries_fit replies_fit fresh =
+    subst (λ (es : List Entry). SoFar tells pages s xs 0 now es entries replies most port) (sym no_entry)
+    (subst (λ (rs : List Reply). SoFar tells pages s xs 0 now [] entries rs most port) (sym no_reply) (record {
+      kept = (λ max. subst (λ (d : Database). Kept s xs max (Known tells s [] port.reading.landings) d [] []) (sym empty) (kept_start s xs max (Known tells s [] port.reading.landings)));
+      causes = (caused_start tells s port fresh).causes;
+      are = subst (λ (all : List File). AreFiles now all) (sym (caused_start tells s port fresh).files_are) files;
+      counted = short;
+      sound = sound;
+      answered = refl;
+      entries_fit = entries_fit;
+      replies_fit = replies_fit;
+    }))

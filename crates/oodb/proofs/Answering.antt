@@ -1,6 +1,6 @@
 -- Statements of each kind, answered over a database.
 use Rattle.std.proofs.Common.{◌≡◌, ℕ, ◌+◌, ◌&&◌, List, [], ◌∷◌, ◌++◌, length, map, Option, Some, None, IsSomeAnd, inl, inr, refl, sym, ap, subst, ◌∙◌, Bool, true, false, le-leb}
-use Rattle.std.specs.Prelude.{Result, Ok, Err, is_ok, if◌then◌else◌}
+use Rattle.std.specs.Prelude.{Result, Ok, Err, IfOk, is_ok, if◌then◌else◌}
 use Rattle.std.specs.List.{slice_get, list_any}
 use Rattle.std.specs.Option.{is_some, option_or, option_and_then, option_map}
 use Rattle.hv_row.specs.declared.value.Value.{Value}
@@ -21,7 +21,10 @@ use Rattle.hv_model.specs.declared.catalogue.Detail.TheVariants as detail
 use Rattle.hv_model.specs.declared.catalogue.Entry.{Entry}
 use Rattle.hv_model.specs.declared.query.BoundQuery.{BoundQuery}
 use Rattle.hv_model.specs.declared.query.Cell.{Cell}
+use Rattle.hv_model.specs.declared.reply.Reply.{Reply}
 use Rattle.hv_model.specs.declared.reply.Reply.TheVariants.{Rows, Refused}
+use Rattle.hv_model.specs.declared.reply.Failure.{Failure}
+use Rattle.hv_model.specs.declared.reply.Failure.TheVariants.{Read, Write, Damaged, Memory}
 use Rattle.hv_model.specs.declared.reply.Refusal.{Refusal}
 use Rattle.hv_model.specs.declared.reply.Refusal.TheVariants.{Unbuilt, EmptyAggregate}
 use Rattle.hv_model.specs.Lexed.{lexemes}
@@ -36,8 +39,9 @@ use Rattle.hv_model.specs.Query.{rows_of_number, loops_over, out}
 use Rattle.hv_model.specs.Bound.{unless, is_grouped}
 use Rattle.hv_model.specs.Selected.{select_refusal, select_query, unless_refused}
 use Rattle.hv_model.specs.Command.{are_schema, accepts, command_of, query_of, bound, text_refusal, early_refusal, empty_refusal, refusal}
-use Rattle.hv_model.specs.Legal.{Names, IsRefusedFor}
+use Rattle.hv_model.specs.Legal.{Names, IsRefusedFor, may_fail}
 use Rattle.hv_model.specs.OneSession.{Commits, Settles}
+use Rattle.hv_model.proofs.Premises.{settles_under}
 use Rattle.oodb.specs.declared.store.StoredTable.{StoredTable}
 use Rattle.oodb.specs.declared.store.Store.{Store}
 use Rattle.oodb.specs.Stored as stored
@@ -52,22 +56,22 @@ early_at : (x : Statement) (s : Database) (read : Result Ast ℕ) → parsed x.t
 early_at x s read is = ap (λ r. text_refusal r x.lines s) is
 
 -- an early refusal is the statement's, whatever the rows are
-refused_early : (x : Statement) (s : Database) (max : ℕ) (tells : Bool) (cause : Refusal) → early_refusal x s ≡ Some cause → IsRefusedFor x s max tells cause
-refused_early x s max tells cause early = record {
+refused_early : (x : Statement) (s : Database) (max : ℕ) (known : Type 0) (cause : Refusal) → early_refusal x s ≡ Some cause → IsRefusedFor x s max known cause
+refused_early x s max known cause early = record {
   told = λ _. ap (λ o. option_or o (empty_refusal (bound x s) s)) early;
   cause_is = inl early;
 }
 
 -- a statement that is refused early changes nothing
-pub settles_early : (x : Statement) (max : ℕ) (tells : Bool) (s : Database) (history : List Entry) (at : ℕ) (cause : Refusal) → at ≡ length history → early_refusal x s ≡ Some cause
-    → Settles x max tells s history (Refused at cause) s history
-settles_early x max tells s history at cause counted early =
-    (record { same_database = refl; same_history = refl; at_is = counted }, refused_early x s max tells cause early)
+pub settles_early : (x : Statement) (max : ℕ) (known : Type 0) (s : Database) (history : List Entry) (at : ℕ) (cause : Refusal) → at ≡ length history → early_refusal x s ≡ Some cause
+    → Settles x max known s history (Refused at cause) s history
+settles_early x max known s history at cause counted early =
+    (record { same_database = refl; same_history = refl; at_is = counted }, refused_early x s max known cause early)
 
 -- a text that was read so refuses its statement
-pub settles_read : (x : Statement) (max : ℕ) (tells : Bool) (s : Database) (history : List Entry) (at : ℕ) (read : Result Ast ℕ) (cause : Refusal) → at ≡ length history → parsed x.text ≡ read
-    → text_refusal read x.lines s ≡ Some cause → Settles x max tells s history (Refused at cause) s history
-settles_read x max tells s history at read cause counted is refused = settles_early x max tells s history at cause counted (early_at x s read is ∙ refused)
+pub settles_read : (x : Statement) (max : ℕ) (known : Type 0) (s : Database) (history : List Entry) (at : ℕ) (read : Result Ast ℕ) (cause : Refusal) → at ≡ length history → parsed x.text ≡ read
+    → text_refusal read x.lines s ≡ Some cause → Settles x max known s history (Refused at cause) s history
+settles_read x max known s history at read cause counted is refused = settles_early x max known s history at cause counted (early_at x s read is ∙ refused)
 
 -- a command that is refused for some reason is not accepted
 not_ok : (r : Option StepRefusal) (after : Database) → is_some r ≡ true → is_ok (database.unless r after) ≡ false
@@ -173,18 +177,18 @@ pub early_select : (x : Statement) (s : Database) (tree : SelectAst) (cause : Re
 early_select x s tree cause is refused = early_at x s (Ok (ast.Select tree)) is ∙ refused
 
 -- the rows of a select answer it
-pub settles_rows : (x : Statement) (max : ℕ) (tells : Bool) (s : Database) (history : List Entry) (at : ℕ) (tree : SelectAst) (q : BoundQuery) (tables : List (List (List Value))) (rows : List (List Cell))
-    → at ≡ length history → parsed x.text ≡ Ok (ast.Select tree) → select_query tree s ≡ Some q → (tells ≡ true → tables ≡ map (rows_of_number s) q.places)
+pub settles_rows : (x : Statement) (max : ℕ) (known : Type 0) (s : Database) (history : List Entry) (at : ℕ) (tree : SelectAst) (q : BoundQuery) (tables : List (List (List Value))) (rows : List (List Cell))
+    → at ≡ length history → parsed x.text ≡ Ok (ast.Select tree) → select_query tree s ≡ Some q → (known → tables ≡ map (rows_of_number s) q.places)
     → AnswersFor q.order q.limit (out q (loops_over q.cond tables)) rows → is_empty_aggregate q (loops_over q.cond tables) ≡ false
-    → Settles x max tells s history (Rows at rows) s history
-settles_rows x max tells s history at tree q tables rows counted is bound are answer some = (
+    → Settles x max known s history (Rows at rows) s history
+settles_rows x max known s history at tree q tables rows counted is bound are answer some = (
   record { same_database = refl; same_history = refl; at_is = counted },
   record {
     query = q;
     is = query_bound x s tree q is bound;
     early = query_early x s tree q is bound;
-    allowed = λ told. query_refusal x s max tree q tables false is bound (are told) some;
-    answer = λ told. subst (λ ts. AnswersFor q.order q.limit (out q (loops_over q.cond ts)) rows) (are told) answer;
+    allowed = λ is_known. query_refusal x s max tree q tables false is bound (are is_known) some;
+    answer = λ is_known. subst (λ ts. AnswersFor q.order q.limit (out q (loops_over q.cond ts)) rows) (are is_known) answer;
   },
 )
 
@@ -197,16 +201,31 @@ over_none q (combo ∷ combos) is = absurd (never (none_of q.groups) (list_any w
   never false b e = cc
 
 -- a select over no combinations that wants some is refused
-pub settles_over_none : (x : Statement) (max : ℕ) (tells : Bool) (s : Database) (history : List Entry) (at : ℕ) (tree : SelectAst) (q : BoundQuery) (tables : List (List (List Value)))
-    → at ≡ length history → parsed x.text ≡ Ok (ast.Select tree) → select_query tree s ≡ Some q → (tells ≡ true → tables ≡ map (rows_of_number s) q.places)
-    → is_empty_aggregate q (loops_over q.cond tables) ≡ true → Settles x max tells s history (Refused at EmptyAggregate) s history
-settles_over_none x max tells s history at tree q tables counted is bound are none = (
+pub settles_over_none : (x : Statement) (max : ℕ) (known : Type 0) (s : Database) (history : List Entry) (at : ℕ) (tree : SelectAst) (q : BoundQuery) (tables : List (List (List Value)))
+    → at ≡ length history → parsed x.text ≡ Ok (ast.Select tree) → select_query tree s ≡ Some q → (known → tables ≡ map (rows_of_number s) q.places)
+    → is_empty_aggregate q (loops_over q.cond tables) ≡ true → Settles x max known s history (Refused at EmptyAggregate) s history
+settles_over_none x max known s history at tree q tables counted is bound are none = (
   record { same_database = refl; same_history = refl; at_is = counted },
   record {
-    told = λ told. query_refusal x s max tree q tables true is bound (are told) none;
+    told = λ is_known. query_refusal x s max tree q tables true is bound (are is_known) none;
     cause_is = inr (record { is = refl; query = q; means = query_bound x s tree q is bound; over_none = over_none q (loops_over q.cond tables) none });
   },
 )
+
+-- a select fails for its reads or for want of memory
+pub may_read : (text : List ℕ) (tree : SelectAst) (cause : Failure) → parsed text ≡ Ok (ast.Select tree) → ¬ (cause ≡ Write) → may_fail (tree_of text) cause ≡ true
+may_read text tree Read is read = ap (λ r. may_fail (some_tree r) Read) is
+may_read text tree Write is read = absurd (read refl)
+may_read text tree (Damaged chunk page why) is read = ap (λ r. may_fail (some_tree r) (Damaged chunk page why)) is
+may_read text tree Memory is read = refl
+
+-- ---- under a premise
+
+-- what is owed without a premise of content is owed under any
+pub settled_known : {E : Type 0} (known : Type 0) (x : Statement) (before : Database) (history : List Entry) (r : Result Reply E) (new : Database) (longer : List Entry)
+    → IfOk r (λ reply. (max : ℕ) → Settles x max (Unit {0}) before history reply new longer) → IfOk r (λ reply. (max : ℕ) → Settles x max known before history reply new longer)
+settled_known known x before history (Ok reply) new longer settles = λ max. settles_under known (Unit {0}) (λ k. tt) x max before history reply new longer (settles max)
+settled_known known x before history (Err cause) new longer settles = tt
 
 -- ---- commands
 

@@ -1,11 +1,12 @@
 -- What the failures so far stand on stands on, and holds of one more reply.
-use Rattle.std.proofs.Common.{◌≡◌, ◌⊎◌, ℕ, zero, suc, ◌+◌, ◌<◌, ◌≤◌, Bool, true, false, cond, List, [], ◌∷◌, ◌++◌, length, Option, Some, None, inl, inr, refl, sym, ap, ◌∙◌, subst, arith, count_by, eqb-true, eq-eqb, le_refl}
+use Rattle.std.proofs.Common.{◌≡◌, ◌⊎◌, ℕ, ◌+◌, ◌<◌, ◌≤◌, Bool, true, false, cond, List, [], ◌∷◌, ◌++◌, length, Option, Some, None, inl, inr, refl, sym, ap, ◌∙◌, subst, arith, count_by, eqb-true, eq-eqb, le_refl, append-nil}
 use Rattle.std.specs.Prelude.{◌==◌}
 use Rattle.std.specs.List.{slice_get}
+use Rattle.std.proofs.lemmas.Bool.{cases_lt}
 use Rattle.std.proofs.lemmas.Option.{slice_get_within}
 use Rattle.std.proofs.lemmas.List.Sums.{fold-append}
 use Rattle.hv_io.specs.Counts.{Rose}
-use Rattle.hv_dev.specs.Reading.{Landing}
+use Rattle.hv_dev.specs.Reading.{Reading, Landing}
 use Rattle.hv_model.specs.declared.script.Statement.{Statement}
 use Rattle.hv_model.specs.declared.script.Script.{Script}
 use Rattle.hv_model.specs.declared.catalogue.Database.{Database}
@@ -18,11 +19,14 @@ use Rattle.hv_model.specs.declared.reply.Reply.TheVariants.{Done, Rows, Refused,
 use Rattle.hv_model.specs.Command.{database_after}
 use Rattle.hv_model.specs.Legal.{number_of}
 use Rattle.hv_model.specs.OneSession.{Settles, Kept}
-use Rattle.hv_model.proofs.Places.{slice_get-more}
+use Rattle.hv_model.proofs.Places.{slice_get-more, slice_get-last}
 use Rattle.hv_model.proofs.SoFar.{database_after-kept}
-use Rattle.oodb.specs.Reads.{PortSeen, IsIdle, GoesOn}
-use Rattle.oodb.specs.Damage.{StandsOn, RepliedBy}
-use Rattle.oodb.specs.Causes.{RoseBy, is_read, is_write, is_digest, failed_so, failed_so_option, DamagesStand, CausedSoFar}
+use Rattle.oodb.specs.Reads.{PortSeen, IsIdle, GoesOn, fresh_port}
+use Rattle.oodb.specs.Damage.{is_digest_why, Serves, StandsOn, RepliedBy}
+use Rattle.oodb.specs.Causes.{RoseBy, RoseWith, is_read, is_write, is_digest, failed_so, failed_so_option, DamagesStand, CausedSoFar}
+use Rattle.oodb.proofs.StoreChanges.{file_longer}
+use Rattle.oodb.proofs.Landed.{get_front, get_longer}
+use Rattle.oodb.proofs.Knowing.{is_at}
 
 -- the count with one more
 pub count_more : {X : Type 0} (f : X → Bool) (xs : List X) (x : X) → count_by f (xs ++ x ∷ []) ≡ count_by f xs + cond (f x) 1 0
@@ -46,44 +50,83 @@ rose_next kind rs r before now by le rose =
       | false ↦ (λ e. rose_still (count_by kind rs + 0) 0 before now (subst (λ (n : ℕ). RoseBy n 0 before) (omega arith) by) le)
     ] refl)
 
--- a reply of a failed read has its cause, and so has one of a failed write
-pub read_rose : {File : Type 0} (tells : Bool) (s : Database) (before now : PortSeen File) (r : Reply) → RepliedBy tells s before now r → failed_so is_read r ≡ true
+-- a count that rose with the replies of a kind and with them alone, with one more
+rose_with_next : (kind : Reply → Bool) (rs : List Reply) (r : Reply) (before now : ℕ) → RoseWith (count_by kind rs) 0 before → before ≤ now → (kind r ≡ true → Rose before now) → (kind r ≡ false → now ≡ before)
+    → RoseWith (count_by kind (rs ++ r ∷ [])) 0 now
+rose_with_next kind rs r before now with_them le rose still = record {
+  by = rose_next kind rs r before now with_them.by le rose;
+  still = (λ none. elim (kind r) as (λ b. (kind r ≡ b) → now ≡ 0) [
+    | true ↦ (λ e. absurd (let more : count_by kind (rs ++ r ∷ []) ≡ count_by kind rs + cond {A = ℕ} (kind r) 1 0 = count_more kind rs r in
+        let one : cond {A = ℕ} (kind r) 1 0 ≡ 1 = rw e refl in omega (arith, more, one, none)))
+    | false ↦ (λ e. still e ∙ with_them.still (let more : count_by kind (rs ++ r ∷ []) ≡ count_by kind rs + cond {A = ℕ} (kind r) 1 0 = count_more kind rs r in omega (arith, more, none)))
+  ] refl);
+}
+
+-- a reply of a failed read has its cause, and so has one of a failed write; each other reply leaves the count as it was
+pub read_rose : {File : Type 0} (tells : Bool) (s : Database) (files : List File) (before now : PortSeen File) (r : Reply) → RepliedBy tells s files before now r → failed_so is_read r ≡ true
     → Rose before.reading.read_faults now.reading.read_faults
-read_rose tells s before now (Done at what) by e = absurd cc
-read_rose tells s before now (Rows at rows) by e = absurd cc
-read_rose tells s before now (Refused at cause) by e = absurd cc
-read_rose tells s before now (Failed at Read) by e = by
-read_rose tells s before now (Failed at Write) by e = absurd cc
-read_rose tells s before now (Failed at (Damaged chunk page why)) by e = absurd cc
-read_rose tells s before now (Failed at Memory) by e = absurd cc
+read_rose tells s files before now (Done at what) by e = absurd cc
+read_rose tells s files before now (Rows at rows) by e = absurd cc
+read_rose tells s files before now (Refused at cause) by e = absurd cc
+read_rose tells s files before now (Failed at Read) by e = by.0
+read_rose tells s files before now (Failed at Write) by e = absurd cc
+read_rose tells s files before now (Failed at (Damaged chunk page why)) by e = absurd cc
+read_rose tells s files before now (Failed at Memory) by e = absurd cc
 
-pub write_rose : {File : Type 0} (tells : Bool) (s : Database) (before now : PortSeen File) (r : Reply) → RepliedBy tells s before now r → failed_so is_write r ≡ true
+read_still : {File : Type 0} (tells : Bool) (s : Database) (files : List File) (before now : PortSeen File) (r : Reply) → RepliedBy tells s files before now r → failed_so is_read r ≡ false
+    → now.reading.read_faults ≡ before.reading.read_faults
+read_still tells s files before now (Done at what) by e = by.0.reads
+read_still tells s files before now (Rows at rows) by e = by.0.reads
+read_still tells s files before now (Refused at cause) by e = by.0.reads
+read_still tells s files before now (Failed at Read) by e = absurd cc
+read_still tells s files before now (Failed at Write) by e = ap (λ r. r.read_faults) by.1
+read_still tells s files before now (Failed at (Damaged chunk page why)) by e = by.0.reads
+read_still tells s files before now (Failed at Memory) by e = by.0.reads
+
+pub write_rose : {File : Type 0} (tells : Bool) (s : Database) (files : List File) (before now : PortSeen File) (r : Reply) → RepliedBy tells s files before now r → failed_so is_write r ≡ true
     → Rose before.write_faults now.write_faults
-write_rose tells s before now (Done at what) by e = absurd cc
-write_rose tells s before now (Rows at rows) by e = absurd cc
-write_rose tells s before now (Refused at cause) by e = absurd cc
-write_rose tells s before now (Failed at Read) by e = absurd cc
-write_rose tells s before now (Failed at Write) by e = by
-write_rose tells s before now (Failed at (Damaged chunk page why)) by e = absurd cc
-write_rose tells s before now (Failed at Memory) by e = absurd cc
+write_rose tells s files before now (Done at what) by e = absurd cc
+write_rose tells s files before now (Rows at rows) by e = absurd cc
+write_rose tells s files before now (Refused at cause) by e = absurd cc
+write_rose tells s files before now (Failed at Read) by e = absurd cc
+write_rose tells s files before now (Failed at Write) by e = by.0
+write_rose tells s files before now (Failed at (Damaged chunk page why)) by e = absurd cc
+write_rose tells s files before now (Failed at Memory) by e = absurd cc
 
--- what stood at a place of a list stands there in a longer one
-pub get_longer : {X : Type 0} (xs ys : List X) (k : ℕ) (x : X) → slice_get xs k ≡ Some x → slice_get (xs ++ ys) k ≡ Some x
-get_longer [] ys k x e = absurd cc
-get_longer (z ∷ zs) ys zero x e = e
-get_longer (z ∷ zs) ys (suc k) x e = get_longer zs ys k x e
+write_still : {File : Type 0} (tells : Bool) (s : Database) (files : List File) (before now : PortSeen File) (r : Reply) → RepliedBy tells s files before now r → failed_so is_write r ≡ false → now.write_faults ≡ before.write_faults
+write_still tells s files before now (Done at what) by e = by.0.writes
+write_still tells s files before now (Rows at rows) by e = by.0.writes
+write_still tells s files before now (Refused at cause) by e = by.0.writes
+write_still tells s files before now (Failed at Read) by e = by.1
+write_still tells s files before now (Failed at Write) by e = absurd cc
+write_still tells s files before now (Failed at (Damaged chunk page why)) by e = by.0.writes
+write_still tells s files before now (Failed at Memory) by e = by.0.writes
 
-pub stands_longer : {File : Type 0} (tells : Bool) (s : Database) (landed more after : List (Landing File)) (place number page : ℕ) (why : Why) → after ≡ landed ++ more
-    → StandsOn tells s landed place number page why → StandsOn tells s after place number page why
-stands_longer tells s landed more after place number page why is on = record {
+-- ---- the reads that damage stands on
+
+-- over more files and more reads
+stands_longer : {File : Type 0} (tells : Bool) (s : Database) (files new : List File) (landed more after : List (Landing File)) (place number page : ℕ) (why : Why) → after ≡ landed ++ more
+    → StandsOn tells s files landed place number page why → StandsOn tells s (files ++ new) after place number page why
+stands_longer tells s files new landed more after place number page why is on = record {
   untold = on.untold;
   schema = on.schema;
   written = on.written;
   was = on.was;
   read = on.read;
   stands = rw is (get_longer landed more place on.read on.stands);
+  of_file = file_longer files new number on.read.file on.of_file;
   of_page = on.of_page;
   because = on.because;
+}
+
+serves_longer : {File : Type 0} (s : Database) (files new : List File) (read : Landing File) → Serves s files read → Serves s (files ++ new) read
+serves_longer s files new read serves = record {
+  number = serves.number;
+  schema = serves.schema;
+  written = serves.written;
+  was = serves.was;
+  of_file = file_longer files new serves.number read.file serves.of_file;
+  digest = serves.digest;
 }
 
 -- a reply of a page of another digest
@@ -118,15 +161,21 @@ place_old place last new k below = elim (k == last) as (λ b. (k == last) ≡ b 
 place_new : (place : ℕ → ℕ) (last new k : ℕ) → k ≡ last → place_with place last new k ≡ new
 place_new place last new k same = rw (eq-eqb k last same) refl
 
+-- each read that landed behind some serves a database of the history, or the reply tells it
+abbrev LastTold : {File : Type 0} → Script → List Entry → Reply → List File → List (Landing File) → List (Landing File) → ℕ → Type 0
+LastTold {File} s longer r files landed after new =
+    (j : ℕ) (read : Landing File) → length landed ≤ j → slice_get after j ≡ Some read → ((n : ℕ) × Serves (database_after s longer n) files read) ⊎ ((j ≡ new) × (failed_so is_digest r ≡ true))
+
 -- with one more reply, which stands on a new read where it is one of damage
-pub damage_next : {File : Type 0} (tells : Bool) (s : Script) (history longer : List Entry) (rs : List Reply) (r : Reply) (landed more after : List (Landing File)) (new : ℕ)
-    → DamagesStand tells s history rs landed
+pub damage_next : {File : Type 0} (tells : Bool) (s : Script) (history longer : List Entry) (rs : List Reply) (r : Reply) (files fresh : List File) (landed more after : List (Landing File)) (new : ℕ)
+    → DamagesStand tells s history rs files landed
     → ((k : ℕ) (q : Reply) → slice_get rs k ≡ Some q → number_of q ≤ length history)
     → ((n : ℕ) → n ≤ length history → database_after s longer n ≡ database_after s history n)
     → after ≡ landed ++ more → length landed ≤ new
-    → ((n number page : ℕ) (why : Why) → r ≡ Failed n (Damaged number page why) → StandsOn tells (database_after s longer n) after new number page why)
-    → DamagesStand tells s longer (rs ++ r ∷ []) after
-damage_next tells s history longer rs r landed more after new old within same is since last =
+    → ((n number page : ℕ) (why : Why) → r ≡ Failed n (Damaged number page why) → StandsOn tells (database_after s longer n) (files ++ fresh) after new number page why)
+    → LastTold s longer r (files ++ fresh) landed after new
+    → DamagesStand tells s longer (rs ++ r ∷ []) (files ++ fresh) after
+damage_next {File} tells s history longer rs r files fresh landed more after new old within same is since last told_last =
     let place = place_with old.place (length rs) new in
     let old_place : (k : ℕ) → k < length rs → failed_so_option is_digest (slice_get (rs ++ r ∷ []) k) ≡ true → place k < length landed =
     (λ k below e. let d = digest_reply (slice_get (rs ++ r ∷ []) k) e in
@@ -150,7 +199,7 @@ damage_next tells s history longer rs r landed more after new old within same is
       stands = (λ k n number page why e. elim (slice_get-more rs r k (Failed n (Damaged number page why)) e) [
         | inl had ↦ (let le : n ≤ length history = within k (Failed n (Damaged number page why)) had.stands in
             rw (place_old old.place (length rs) new k had.below, same n le)
-            (stands_longer tells (database_after s history n) landed more after (old.place k) number page why is (old.stands k n number page why had.stands)))
+            (stands_longer tells (database_after s history n) files fresh landed more after (old.place k) number page why is (old.stands k n number page why had.stands)))
         | inr is_last ↦ rw (place_new old.place (length rs) new k is_last.at) (last n number page why is_last.same)
       ]);
       distinct = (λ j k e_j e_k places. elim (at j e_j) [
@@ -164,72 +213,140 @@ damage_next tells s history longer rs r landed more after new old within same is
           | inr last_k ↦ last_j ∙ sym last_k
         ]
       ]);
+      told = (λ j read stands. elim (cases_lt j (length landed)) [
+        | inl below ↦ (let had : slice_get landed j ≡ Some read = sym (get_front landed more j below) ∙ ap (λ (l : List (Landing File)). slice_get l j) (sym is) ∙ stands in
+            elim (old.told j read had) [
+              | inl serves ↦ (let there = is_at s history longer serves.0 same in
+                  inl (there.at, subst (λ (d : Database). Serves d (files ++ fresh) read) (sym there.same) (serves_longer (database_after s history serves.0) files fresh read serves.1)))
+              | inr tells_it ↦ (let d = digest_reply (slice_get rs tells_it.0) tells_it.1 in
+                  let k_below : tells_it.0 < length rs = slice_get_within rs tells_it.0 (Failed d.n (Damaged d.number d.page d.why)) d.is in
+                  inr (tells_it.0, ap (failed_so_option is_digest) (get_front rs (r ∷ []) tells_it.0 k_below) ∙ tells_it.1, place_old old.place (length rs) new tells_it.0 k_below ∙ tells_it.2))
+            ])
+        | inr above ↦ elim (told_last j read above stands) [
+          | inl serves ↦ inl serves
+          | inr tells_it ↦ inr (length rs, ap (failed_so_option is_digest) (slice_get-last rs r) ∙ tells_it.1, place_new old.place (length rs) new (length rs) refl ∙ sym tells_it.0)
+        ]
+      ]);
     }
 
 -- a history that goes on keeps what was there
-pub history_kept : (s : Script) (x : Statement) (max : ℕ) (tells : Bool) (before new : Database) (history longer : List Entry) (r : Reply) → Settles x max tells before history r new longer
+pub history_kept : (s : Script) (x : Statement) (max : ℕ) (known : Type 0) (before new : Database) (history longer : List Entry) (r : Reply) → Settles x max known before history r new longer
     → (n : ℕ) → n ≤ length history → database_after s longer n ≡ database_after s history n
-history_kept s x max tells before new history longer (Done at what) settles n le = rw settles.is_longer (database_after-kept s history settles.entry n le)
-history_kept s x max tells before new history longer (Rows at rows) settles n le = rw settles.0.same_history refl
-history_kept s x max tells before new history longer (Refused at cause) settles n le = rw settles.0.same_history refl
-history_kept s x max tells before new history longer (Failed at cause) settles n le = rw settles.0.same_history refl
+history_kept s x max known before new history longer (Done at what) settles n le = rw settles.is_longer (database_after-kept s history settles.entry n le)
+history_kept s x max known before new history longer (Rows at rows) settles n le = rw settles.0.same_history refl
+history_kept s x max known before new history longer (Refused at cause) settles n le = rw settles.0.same_history refl
+history_kept s x max known before new history longer (Failed at cause) settles n le = rw settles.0.same_history refl
 
 -- a place among what landed that is new where there is none yet
-abbrev new_place : {File : Type 0} (tells : Bool) (s : Database) (before now : PortSeen File) (r : Reply) → RepliedBy tells s before now r → ℕ
-new_place tells s before now (Done at what) by = length before.reading.landings
-new_place tells s before now (Rows at rows) by = length before.reading.landings
-new_place tells s before now (Refused at cause) by = length before.reading.landings
-new_place tells s before now (Failed at Read) by = length before.reading.landings
-new_place tells s before now (Failed at Write) by = length before.reading.landings
-new_place tells s before now (Failed at (Damaged number page why)) by = by.place
-new_place tells s before now (Failed at Memory) by = length before.reading.landings
+abbrev new_place : {File : Type 0} (tells : Bool) (s : Database) (files : List File) (before now : PortSeen File) (r : Reply) → RepliedBy tells s files before now r → ℕ
+new_place tells s files before now (Done at what) by = length before.reading.landings
+new_place tells s files before now (Rows at rows) by = length before.reading.landings
+new_place tells s files before now (Refused at cause) by = length before.reading.landings
+new_place tells s files before now (Failed at Read) by = length before.reading.landings
+new_place tells s files before now (Failed at Write) by = length before.reading.landings
+new_place tells s files before now (Failed at (Damaged number page why)) by = by.1.place
+new_place tells s files before now (Failed at Memory) by = length before.reading.landings
 
-place_since : {File : Type 0} (tells : Bool) (s : Database) (before now : PortSeen File) (r : Reply) (by : RepliedBy tells s before now r) → length before.reading.landings ≤ new_place tells s before now r by
-place_since tells s before now (Done at what) by = le_refl (length before.reading.landings)
-place_since tells s before now (Rows at rows) by = le_refl (length before.reading.landings)
-place_since tells s before now (Refused at cause) by = le_refl (length before.reading.landings)
-place_since tells s before now (Failed at Read) by = le_refl (length before.reading.landings)
-place_since tells s before now (Failed at Write) by = le_refl (length before.reading.landings)
-place_since tells s before now (Failed at (Damaged number page why)) by = by.since
-place_since tells s before now (Failed at Memory) by = le_refl (length before.reading.landings)
+place_since : {File : Type 0} (tells : Bool) (s : Database) (files : List File) (before now : PortSeen File) (r : Reply) (by : RepliedBy tells s files before now r) → length before.reading.landings ≤ new_place tells s files before now r by
+place_since tells s files before now (Done at what) by = le_refl (length before.reading.landings)
+place_since tells s files before now (Rows at rows) by = le_refl (length before.reading.landings)
+place_since tells s files before now (Refused at cause) by = le_refl (length before.reading.landings)
+place_since tells s files before now (Failed at Read) by = le_refl (length before.reading.landings)
+place_since tells s files before now (Failed at Write) by = le_refl (length before.reading.landings)
+place_since tells s files before now (Failed at (Damaged number page why)) by = by.1.since
+place_since tells s files before now (Failed at Memory) by = le_refl (length before.reading.landings)
 
 -- the last reply, where it is one of damage, stands on a new read
-last_stands : {File : Type 0} (tells : Bool) (s : Script) (x : Statement) (max : ℕ) (before new : Database) (history longer : List Entry) (r : Reply) (port now : PortSeen File)
-    → before ≡ database_after s history (length history) → Settles x max tells before history r new longer → (by : RepliedBy tells before port now r)
-    → (n number page : ℕ) (why : Why) → r ≡ Failed n (Damaged number page why)
-    → StandsOn tells (database_after s longer n) now.reading.landings (new_place tells before port now r by) number page why
-last_stands tells s x max before new history longer (Done at what) port now is settles by n number page why e = absurd cc
-last_stands tells s x max before new history longer (Rows at rows) port now is settles by n number page why e = absurd cc
-last_stands tells s x max before new history longer (Refused at cause) port now is settles by n number page why e = absurd cc
-last_stands tells s x max before new history longer (Failed at Read) port now is settles by n number page why e = absurd cc
-last_stands tells s x max before new history longer (Failed at Write) port now is settles by n number page why e = absurd cc
-last_stands tells s x max before new history longer (Failed at (Damaged chunk place because)) port now is settles by n number page why e =
-    let same_n : at ≡ n = cc in
+last_stands : {File : Type 0} (tells : Bool) (s : Database) (files : List File) (port now : PortSeen File) (r : Reply) (by : RepliedBy tells s files port now r)
+    → (n number page : ℕ) (why : Why) → r ≡ Failed n (Damaged number page why) → StandsOn tells s files now.reading.landings (new_place tells s files port now r by) number page why
+last_stands tells s files port now (Done at what) by n number page why e = absurd cc
+last_stands tells s files port now (Rows at rows) by n number page why e = absurd cc
+last_stands tells s files port now (Refused at cause) by n number page why e = absurd cc
+last_stands tells s files port now (Failed at Read) by n number page why e = absurd cc
+last_stands tells s files port now (Failed at Write) by n number page why e = absurd cc
+last_stands tells s files port now (Failed at (Damaged chunk place because)) by n number page why e =
     let same_number : chunk ≡ number = cc in
     let same_page : place ≡ page = cc in
     let same_why : because ≡ why = cc in
-    let here : before ≡ database_after s longer n = is ∙ sym (ap (λ (m : ℕ). database_after s history m) (sym same_n ∙ settles.0.at_is)) ∙ sym (history_kept s x max tells before new history longer (Failed at (Damaged chunk place because)) settles n (let a : at ≡ length history = settles.0.at_is in omega arith)) in
-    rw (sym same_number, sym same_page, sym same_why, sym here) by.on
-last_stands tells s x max before new history longer (Failed at Memory) port now is settles by n number page why e = absurd cc
+    rw (sym same_number, sym same_page, sym same_why) by.1.on
+last_stands tells s files port now (Failed at Memory) by n number page why e = absurd cc
+
+-- and the length that it tells is the history's
+last_number : (s : Script) (x : Statement) (max : ℕ) (known : Type 0) (before new : Database) (history longer : List Entry) (r : Reply) → Settles x max known before history r new longer
+    → (n number page : ℕ) (why : Why) → r ≡ Failed n (Damaged number page why) → n ≡ length history
+last_number s x max known before new history longer (Done at what) settles n number page why e = absurd cc
+last_number s x max known before new history longer (Rows at rows) settles n number page why e = absurd cc
+last_number s x max known before new history longer (Refused at cause) settles n number page why e = absurd cc
+last_number s x max known before new history longer (Failed at cause) settles n number page why e = (let same : at ≡ n = cc in sym same ∙ settles.0.at_is)
+
+told_digest : (at number page : ℕ) (why : Why) → is_digest_why why ≡ true → failed_so is_digest (Failed at (Damaged number page why)) ≡ true
+told_digest at number page why e = e
+
+-- over more files
+stands_more : {File : Type 0} (tells : Bool) (s : Database) (files new : List File) (landed : List (Landing File)) (place number page : ℕ) (why : Why)
+    → StandsOn tells s files landed place number page why → StandsOn tells s (files ++ new) landed place number page why
+stands_more tells s files new landed place number page why on =
+    stands_longer tells s files new landed [] landed place number page why (sym (append-nil landed)) on
+
+-- each read that landed for the last reply serves, or the reply tells it
+last_told : {File : Type 0} (tells : Bool) (s : Database) (files : List File) (port now : PortSeen File) (r : Reply) (by : RepliedBy tells s files port now r)
+    → (j : ℕ) (read : Landing File) → length port.reading.landings ≤ j → slice_get now.reading.landings j ≡ Some read
+    → Serves s files read ⊎ ((j ≡ new_place tells s files port now r by) × (failed_so is_digest r ≡ true))
+last_told tells s files port now (Done at what) by j read since stands = inl (by.1 j read since stands)
+last_told tells s files port now (Rows at rows) by j read since stands = inl (by.1 j read since stands)
+last_told tells s files port now (Refused at cause) by j read since stands = inl (by.1 j read since stands)
+last_told tells s files port now (Failed at Read) by j read since stands = inl (by.2 j read since stands)
+last_told {File} tells s files port now (Failed at Write) by j read since stands =
+    absurd (let within : j < length now.reading.landings = slice_get_within now.reading.landings j read stands in omega (arith, ap (λ (r : Reading File). length r.landings) by.1))
+last_told tells s files port now (Failed at (Damaged number page why)) by j read since stands =
+    elim (by.1.others j read since stands) [ inl serves ↦ inl serves | inr it ↦ inr (it.0, told_digest at number page why it.1) ]
+last_told tells s files port now (Failed at Memory) by j read since stands = inl (by.1 j read since stands)
+
+-- what holds of the port between two statements, over these files
+pub record CausedOver {File : Type 0} (tells : Bool) (s : Script) (history : List Entry) (replies : List Reply) (port : PortSeen File) (files : List File) : Type 0 where
+  pub causes : CausedSoFar tells s history replies port
+  pub files_are : causes.files ≡ files
 
 -- one more statement is answered
-pub caused_next : {File : Type 0} (tells : Bool) (s : Script) (xs : List Statement) (x : Statement) (max : ℕ) (before new : Database) (history longer : List Entry) (rs : List Reply) (r : Reply) (port now : PortSeen File)
-    → Kept s xs max tells before history rs → CausedSoFar tells s history rs port → Settles x max tells before history r new longer
-    → RepliedBy tells before port now r → GoesOn port now → CausedSoFar tells s longer (rs ++ r ∷ []) now
-caused_next tells s xs x max before new history longer rs r port now kept causes settles by goes = record {
-  idle = record { room = (let a : now.reading.room ≡ port.reading.room = goes.reads.room in let b : 0 < port.reading.room = causes.idle.room in omega arith); none = goes.reads.none; empty = goes.empty };
-  reads = rose_next (failed_so is_read) rs r port.reading.read_faults now.reading.read_faults causes.reads goes.reads.faults (read_rose tells before port now r by);
-  writes = rose_next (failed_so is_write) rs r port.write_faults now.write_faults causes.writes goes.faults (write_rose tells before port now r by);
-  damage = damage_next tells s history longer rs r port.reading.landings goes.reads.more now.reading.landings (new_place tells before port now r by) causes.damage kept.legal.within
-      (history_kept s x max tells before new history longer r settles) goes.reads.landed (place_since tells before port now r by)
-      (last_stands tells s x max before new history longer r port now kept.database settles by);
-}
+pub caused_next : {File : Type 0} (tells : Bool) (s : Script) (xs : List Statement) (x : Statement) (max : ℕ) (known : Type 0) (before new : Database) (history longer : List Entry) (rs : List Reply) (r : Reply) (port now : PortSeen File) (fresh : List File)
+    → Kept s xs max known before history rs → (causes : CausedSoFar tells s history rs port) → Settles x max known before history r new longer → new ≡ database_after s longer (length longer)
+    → length (causes.files ++ fresh) ≡ new.made → RepliedBy tells before causes.files port now r → GoesOn port now → CausedOver tells s longer (rs ++ r ∷ []) now (causes.files ++ fresh)
+caused_next tells s xs x max known before new history longer rs r port now fresh kept causes settles is count by goes =
+    let files = causes.files in
+    let same = history_kept s x max known before new history longer r settles in
+    let here : before ≡ database_after s longer (length history) = kept.database ∙ sym (same (length history) (le_refl (length history))) in
+    let next : CausedSoFar tells s longer (rs ++ r ∷ []) now = record {
+      files = files ++ fresh;
+      count = count ∙ ap (λ (d : Database). d.made) is;
+      idle = record { room = (let a : now.reading.room ≡ port.reading.room = goes.reads.room in let b : 0 < port.reading.room = causes.idle.room in omega arith); none = goes.reads.none; empty = goes.empty };
+      reads = rose_with_next (failed_so is_read) rs r port.reading.read_faults now.reading.read_faults causes.reads goes.reads.faults (read_rose tells before files port now r by) (read_still tells before files port now r by);
+      writes = rose_with_next (failed_so is_write) rs r port.write_faults now.write_faults causes.writes goes.faults (write_rose tells before files port now r by) (write_still tells before files port now r by);
+      damage = damage_next tells s history longer rs r files fresh port.reading.landings goes.reads.more now.reading.landings (new_place tells before files port now r by) causes.damage kept.legal.within
+          same goes.reads.landed (place_since tells before files port now r by)
+          (λ n number page why e. (let at : n ≡ length history = last_number s x max known before new history longer r settles n number page why e in
+          subst (λ (d : Database). StandsOn tells d (files ++ fresh) now.reading.landings (new_place tells before files port now r by) number page why) (here ∙ ap (database_after s longer) (sym at))
+          (stands_more tells before files fresh now.reading.landings (new_place tells before files port now r by) number page why (last_stands tells before files port now r by n number page why e))))
+          (λ j read since stands. elim (last_told tells before files port now r by j read since stands) [
+            | inl serves ↦ inl (length history, subst (λ (d : Database). Serves d (files ++ fresh) read) here (serves_longer before files fresh read serves))
+            | inr told ↦ inr told
+          ]);
+    } in
+    record { causes = next; files_are = refl }
 
 -- before the first statement
-pub caused_start : {File : Type 0} (tells : Bool) (s : Script) (port : PortSeen File) → IsIdle port → CausedSoFar tells s [] [] port
-caused_start tells s port idle = record {
-  idle = idle;
-  reads = record { falls_never = omega arith; risen = omega arith };
-  writes = record { falls_never = omega arith; risen = omega arith };
-  damage = record { place = λ k. k; stands = λ k n number page why e. absurd cc; distinct = λ j k e_j e_k same. absurd cc };
-}
+pub caused_start : {File : Type 0} (tells : Bool) (s : Script) (port : PortSeen File) → port ≡ fresh_port File → CausedOver tells s [] [] port []
+caused_start {File} tells s port fresh =
+    let start : CausedSoFar tells s [] [] port = record {
+      files = [];
+      count = refl;
+      idle = subst (λ (p : PortSeen File). IsIdle p) (sym fresh) (record { room = omega arith; none = refl; empty = refl });
+      reads = record { by = record { falls_never = omega arith; risen = omega arith }; still = λ none. ap (λ p. p.reading.read_faults) fresh };
+      writes = record { by = record { falls_never = omega arith; risen = omega arith }; still = λ none. ap (λ p. p.write_faults) fresh };
+      damage = subst (λ (p : PortSeen File). DamagesStand tells s [] [] [] p.reading.landings) (sym fresh) (record {
+        place = λ k. k;
+        stands = λ k n number page why e. absurd cc;
+        distinct = λ j k e_j e_k same. absurd cc;
+        told = λ j read stands. absurd cc;
+      });
+    } in
+    record { causes = start; files_are = refl }

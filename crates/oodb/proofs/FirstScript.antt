@@ -1,14 +1,24 @@
 -- The first script's outcome, statement by statement.
-use Rattle.std.proofs.Common.{◌≡◌, ℕ, zero, suc, ◌+◌, ◌≤◌, true, List, [], ◌∷◌, Option, Some, None, refl, sym, ◌∙◌, ap, subst, arith, codes, pos, map, lit<, if◌then◌else◌}
-use Rattle.std.specs.List.{slice_get}
+use Rattle.std.proofs.Common.{◌≡◌, ℕ, zero, suc, ◌+◌, ◌≤◌, true, false, List, [], ◌∷◌, Option, Some, None, inr, refl, rules, sym, ◌∙◌, ap, subst, arith, codes, pos, map, lit<, if◌then◌else◌}
+use Rattle.std.specs.List.{All, slice_get}
 use Rattle.std.specs.List.Sorted.{IsPermutation}
 use Rattle.std.specs.Option.{option_or}
 use Rattle.std.specs.Str.{IsAscii, is_utf8}
 use Rattle.std.proofs.lemmas.Str.{IsUtf8-from_ascii, is_utf8-from_IsUtf8}
-use Rattle.std.proofs.lemmas.List.Sorted.{IsPermutation-refl}
+use Rattle.std.proofs.lemmas.List.{take_all}
+use Rattle.std.proofs.lemmas.List.Sorted.{IsPermutation-refl, All-permutation}
 use Rattle.hv_row.specs.declared.value.Value.{Value}
-use Rattle.hv_row.specs.declared.value.Value.TheVariants.{Int, Text}
+use Rattle.hv_row.specs.Row.{RowFits, row_bytes}
+use Rattle.hv_page.specs.Layout.{written_version}
+use Rattle.hv_page.specs.Chunk.{IsPacked, heap_pages_from, AreHeapPages}
+use Rattle.hv_chunk.proofs.Packing.{pages_once}
+use Rattle.hv_view.specs.Known.{NoneForged}
 use Rattle.hv_model.specs.declared.script.Statement.{Statement}
+use Rattle.hv_model.specs.declared.catalogue.Chunk.{Chunk}
+use Rattle.hv_model.specs.declared.catalogue.Table.{Table}
+use Rattle.hv_model.specs.declared.catalogue.Entry.{Entry}
+use Rattle.hv_model.specs.declared.query.Cell.{Cell}
+use Rattle.hv_model.specs.declared.query.Cell.TheVariants.{Num, Txt}
 use Rattle.hv_model.specs.declared.catalogue.Database.{Database}
 use Rattle.hv_model.specs.declared.catalogue.TableHead.{TableHead}
 use Rattle.hv_model.specs.declared.catalogue.Command.TheVariants.{Create, Import}
@@ -25,17 +35,18 @@ use Rattle.hv_model.specs.declared.query.BoundQuery.{BoundQuery}
 use Rattle.hv_model.specs.Parsed.{some_tree}
 use Rattle.hv_model.specs.Bound.{first_of, cond_step, cond_of, refusal_step, cond_refusal, bound_query}
 use Rattle.hv_model.specs.Selected.{heads_of, select_refusal, unless_refused}
-use Rattle.hv_model.specs.Command.{command_of, command_at, query_of, bound, text_refusal, early_refusal, empty_refusal, refusal}
+use Rattle.hv_model.specs.Command.{command_of, command_at, query_of, bound, text_refusal, early_refusal, empty_refusal, refusal, database_after, replay_from}
 use Rattle.hv_model.specs.Database.{empty_database, with_table, with_chunk}
 use Rattle.hv_model.specs.Query.{loops, loops_over, out, row_out}
-use Rattle.hv_model.specs.Answer.{is_empty_aggregate}
+use Rattle.hv_model.specs.Answer.{IsAnswer, is_empty_aggregate}
 use Rattle.hv_model.specs.Legal.{Legal, Answered}
 use Rattle.hv_model.specs.OneSession.{IsOneSession, Kept}
 use Rattle.hv_model.proofs.QueryLaws.{always_all}
-use Rattle.hv_model.proofs.SoFar.{kept_start, kept_next}
+use Rattle.hv_model.proofs.SoFar.{kept_start, kept_next, database_after-kept}
 use Rattle.hv_model.proofs.Whole.{legal_whole}
+use Rattle.oodb.specs.Known.{Known, NoneForgedIn}
 use Rattle.oodb.specs.FirstScript as first
-use Rattle.oodb.proofs.FirstTrees.{schema, create_parsed, import_parsed, selected, select_parsed}
+use Rattle.oodb.proofs.FirstTrees.{create_parsed, import_parsed, selected, select_parsed}
 
 -- the statements have their session and numbers
 pub record HasPlace (k : ℕ) (x : Statement) : Type 0 where
@@ -53,16 +64,13 @@ one_session = record { sessions = refl; phases = refl; of_main = (λ k x e. (pla
 
 -- the database after CREATE, and after IMPORT
 abbrev created : Database
-created = with_table (codes "t") schema empty_database
-
-abbrev row : List Value
-row = Int (pos 1) ∷ Text (codes "a") ∷ []
+created = with_table (codes "t") first.schema empty_database
 
 abbrev filled : Database
-filled = with_chunk 0 (record { name = codes "t"; schema = schema; chunks = [] }) (row ∷ []) created
+filled = with_chunk 0 (record { name = codes "t"; schema = first.schema; chunks = [] }) (first.row ∷ []) created
 
 -- the commands of the first two statements
-create_command : command_at first.create empty_database ≡ Some (Create (codes "t") schema)
+create_command : command_at first.create empty_database ≡ Some (Create (codes "t") first.schema)
 create_command = ap (λ tree. command_of (some_tree tree) [] empty_database) create_parsed
 
 ascii : IsAscii (codes "a")
@@ -72,34 +80,34 @@ ascii (suc i) = lit< tt
 text : is_utf8 (codes "a") ≡ true
 text = is_utf8-from_IsUtf8 (codes "a") (IsUtf8-from_ascii (codes "a") ascii)
 
-import_command : command_at first.import created ≡ Some (Import (codes "t") (row ∷ []))
+import_command : command_at first.import created ≡ Some (Import (codes "t") (first.row ∷ []))
 import_command = ap (λ tree. command_of (some_tree tree) (codes "1,a\n") created) import_parsed ∙ rw text refl
 
-after_create : (max : ℕ) → Kept first.script first.statements max true created (first.made ∷ []) (Done 1 (detail.Create (codes "t")) ∷ [])
-after_create max = kept_next first.script first.statements max true empty_database created [] (first.made ∷ []) [] first.create (Done 1 (detail.Create (codes "t"))) one_session
-    (kept_start first.script first.statements max true) refl
+after_create : (known : Type 0) (max : ℕ) → Kept first.script first.statements max known created (first.made ∷ []) (Done 1 (detail.Create (codes "t")) ∷ [])
+after_create known max = kept_next first.script first.statements max known empty_database created [] (first.made ∷ []) [] first.create (Done 1 (detail.Create (codes "t"))) one_session
+    (kept_start first.script first.statements max known) refl
     (record {
       entry = first.made;
       names = record { session = refl; number = refl };
       told = refl;
       is_longer = refl;
       at_is = refl;
-      command = Create (codes "t") schema;
+      command = Create (codes "t") first.schema;
       is = create_command;
       steps = refl;
       detail = refl;
     })
 
-after_import : (max : ℕ) → Kept first.script first.statements max true filled first.history (Done 1 (detail.Create (codes "t")) ∷ Done 2 (detail.Import (codes "t") 1 1) ∷ [])
-after_import max = kept_next first.script first.statements max true created filled (first.made ∷ []) first.history (Done 1 (detail.Create (codes "t")) ∷ []) first.import
-    (Done 2 (detail.Import (codes "t") 1 1)) one_session (after_create max) refl
+after_import : (known : Type 0) (max : ℕ) → Kept first.script first.statements max known filled first.history (Done 1 (detail.Create (codes "t")) ∷ Done 2 (detail.Import (codes "t") 1 1) ∷ [])
+after_import known max = kept_next first.script first.statements max known created filled (first.made ∷ []) first.history (Done 1 (detail.Create (codes "t")) ∷ []) first.import
+    (Done 2 (detail.Import (codes "t") 1 1)) one_session (after_create known max) refl
     (record {
       entry = first.imported;
       names = record { session = refl; number = refl };
       told = refl;
       is_longer = refl;
       at_is = refl;
-      command = Import (codes "t") (row ∷ []);
+      command = Import (codes "t") (first.row ∷ []);
       is = import_command;
       steps = refl;
       detail = refl;
@@ -134,7 +142,7 @@ select_early = ap (λ tree. text_refusal tree [] filled) select_parsed ∙ selec
 
 -- it lists the one row
 abbrev combos : List (List (List Value))
-combos = (row ∷ []) ∷ []
+combos = (first.row ∷ []) ∷ []
 
 select_loops : loops query filled ≡ combos
 select_loops = ap (λ (c : Cond). loops_over c combos) no_condition ∙ always_all combos
@@ -148,8 +156,8 @@ select_allowed max =
     ∙ ap (λ (q : Option BoundQuery). empty_refusal q filled) select_bound
     ∙ ap (λ (listed : List _). if is_empty_aggregate query listed then Some EmptyAggregate else None) select_loops
 
-select_answered : (max : ℕ) → Answered first.select filled max true first.rows
-select_answered max = record {
+select_answered : (known : Type 0) (max : ℕ) → Answered first.select filled max known first.rows
+select_answered known max = record {
   query = query;
   is = select_bound;
   early = select_early;
@@ -157,16 +165,117 @@ select_answered max = record {
   answer = (λ told. subst (λ rows. IsPermutation rows first.rows) (sym select_out) (IsPermutation-refl first.rows));
 }
 
-after_select : (max : ℕ) → Kept first.script first.statements max true filled first.history (first.replies_at 2)
-after_select max = kept_next first.script first.statements max true filled filled first.history first.history
-    (Done 1 (detail.Create (codes "t")) ∷ Done 2 (detail.Import (codes "t") 1 1) ∷ []) first.select (Rows 2 first.rows) one_session (after_import max) refl
-    (record { same_database = refl; same_history = refl; at_is = refl }, select_answered max)
+after_select : (known : Type 0) (max : ℕ) → Kept first.script first.statements max known filled first.history (first.replies_at 2)
+after_select known max = kept_next first.script first.statements max known filled filled first.history first.history
+    (Done 1 (detail.Create (codes "t")) ∷ Done 2 (detail.Import (codes "t") 1 1) ∷ []) first.select (Rows 2 first.rows) one_session (after_import known max) refl
+    (record { same_database = refl; same_history = refl; at_is = refl }, select_answered known max)
 
-pub met : (max : ℕ) → Legal first.script max true first.history (first.replies_at 2 ∷ [])
-met max = legal_whole first.script first.statements max true filled first.history (first.replies_at 2) one_session (after_select max) refl
+pub met : (known : Type 0) (max : ℕ) → Legal first.script max known first.history (first.replies_at 2 ∷ [])
+met known max = legal_whole first.script first.statements max known filled first.history (first.replies_at 2) one_session (after_select known max) refl
 
 -- along the session the number of the query may not fall below that of its import
-pub missed : (max : ℕ) → Legal first.script max true first.history (first.replies_at 1 ∷ []) → ⊥
-missed max legal =
+pub missed : (known : Type 0) (max : ℕ) → Legal first.script max known first.history (first.replies_at 1 ∷ []) → ⊥
+missed known max legal =
     let behind : 2 ≤ 1 = legal.parts.along first.import first.select (Done 2 (detail.Import (codes "t") 1 1)) (Rows 1 first.rows)
     (1, refl) (2, refl) refl (omega arith) refl refl in omega arith
+
+-- the databases along the history
+after_one : database_after first.script first.history 1 ≡ created
+after_one =
+    let kept = after_create (Unit {0}) 0 in
+    database_after-kept first.script (first.made ∷ []) first.imported 1 (omega arith) ∙ sym kept.database
+
+after_two : (n : ℕ) → database_after first.script first.history (suc (suc n)) ≡ filled
+after_two n = let kept = after_import (Unit {0}) 0 in
+    ap (λ (entries : List Entry). replay_from first.script empty_database entries) (take_all (suc (suc n)) first.history (omega arith)) ∙ sym kept.database
+
+-- the row fits the columns
+row_fits : RowFits first.schema first.row
+row_fits = (search rules, (record { short = omega arith; utf8 = IsUtf8-from_ascii (codes "a") ascii }, tt))
+
+-- the chunk's pages are the one page
+page_packed : IsPacked (((row_bytes first.schema first.row) ∷ []) ∷ [])
+unfolding IsPacked
+page_packed = (omega arith, omega arith, tt, tt)
+
+pub page_is : AreHeapPages written_version first.schema (first.page ∷ []) (first.row ∷ [])
+unfolding heap_pages_from
+page_is = record {
+  stored = (record { fits = row_fits; short = omega arith }, tt);
+  parts = ((row_bytes first.schema first.row) ∷ []) ∷ [];
+  packed = page_packed;
+  slots = refl;
+  numbered = refl;
+}
+
+-- a read of the page is of no page of the rows but that one
+unforged : NoneForged written_version first.schema (first.row ∷ []) first.page_read
+unforged pages are zero bytes at zero read landed digest =
+    let same : pages ≡ first.page ∷ [] = pages_once written_version first.schema pages (first.page ∷ []) (first.row ∷ []) are page_is in
+    let of_page : Some bytes ≡ Some first.page = sym at ∙ ap (λ ps. slice_get ps 0) same in
+    let of_landing : Some (record { tag = 0; file = 1; page = 0; bytes = first.page }) ≡ Some read = landed in
+    let of_read : read.bytes ≡ first.page = cc in cc
+unforged pages are (suc page) bytes at zero read landed digest =
+    let same : pages ≡ first.page ∷ [] = pages_once written_version first.schema pages (first.page ∷ []) (first.row ∷ []) are page_is in
+    let none : Some bytes ≡ None = sym at ∙ ap (λ ps. slice_get ps (suc page)) same in absurd cc
+unforged pages are page bytes at (suc place) read landed digest = absurd cc
+
+-- the tables and chunks of the databases
+abbrev table_with : List Chunk → Table
+table_with chunks = record { name = codes "t"; schema = first.schema; chunks = chunks }
+
+abbrev only_chunk : Chunk
+only_chunk = record { number = 1; rows = first.row ∷ [] }
+
+none_in : (at : ℕ) (table : Table) (place : ℕ) (chunk : Chunk) → slice_get (table_with [] ∷ []) at ≡ Some table → slice_get table.chunks place ≡ Some chunk → ⊥
+none_in zero table place chunk stands has =
+    let same : table_with [] ≡ table = cc in
+    let none : slice_get (table_with []).chunks place ≡ Some chunk = ap (λ (t : Table). slice_get t.chunks place) same ∙ has in cc
+none_in (suc at) table place chunk stands has = cc
+
+unforged_in : (at : ℕ) (table : Table) (place : ℕ) (chunk : Chunk) → slice_get (table_with (only_chunk ∷ []) ∷ []) at ≡ Some table → slice_get table.chunks place ≡ Some chunk
+    → NoneForged written_version table.schema chunk.rows first.page_read
+unforged_in zero table zero chunk stands has =
+    let of_table : table_with (only_chunk ∷ []) ≡ table = cc in
+    let first_of : slice_get (table_with (only_chunk ∷ [])).chunks 0 ≡ Some chunk = ap (λ (t : Table). slice_get t.chunks 0) of_table ∙ has in
+    let of_chunk : only_chunk ≡ chunk = cc in
+    subst (λ (t : Table). NoneForged written_version t.schema chunk.rows first.page_read) of_table
+    (subst (λ (c : Chunk). NoneForged written_version first.schema c.rows first.page_read) of_chunk unforged)
+unforged_in zero table (suc place) chunk stands has =
+    let same : table_with (only_chunk ∷ []) ≡ table = cc in
+    let none : slice_get (table_with (only_chunk ∷ [])).chunks (suc place) ≡ Some chunk = ap (λ (t : Table). slice_get t.chunks (suc place)) same ∙ has in absurd cc
+unforged_in (suc at) table place chunk stands has = absurd cc
+
+-- the premise of content is met by the read of the page
+pub known_by_page : (n : ℕ) → NoneForgedIn (database_after first.script first.history n) first.page_read
+known_by_page zero at table place chunk stands has = absurd cc
+known_by_page (suc zero) at table place chunk stands has = absurd (none_in at table place chunk (rw after_one at stands) has)
+known_by_page (suc (suc n)) at table place chunk stands has = unforged_in at table place chunk (rw (after_two n) at stands) has
+
+pub known : Known false first.script first.history first.page_read
+known = inr known_by_page
+
+-- one row is not in the other's place
+abbrev first_row : List Cell
+first_row = Num (pos 1) ∷ Txt (codes "a") ∷ []
+
+are_first : All (λ (cells : List Cell). cells ≡ first_row) first.rows
+are_first zero d within = refl
+are_first (suc k) d within = absurd (omega arith)
+
+no_other : IsPermutation first.rows first.other_rows → ⊥
+no_other moved =
+    let same : Num (pos 2) ∷ Txt (codes "a") ∷ [] ≡ first_row
+    = All-permutation (λ (cells : List Cell). cells ≡ first_row) first.rows first.other_rows moved are_first 0 [] (omega arith) in
+    let number : ◌≡◌ {A = ℕ} 2 1 = cc in absurd (omega arith)
+
+-- rows with another number are no answer
+pub other_missed : (max : ℕ) → Legal first.script max (Known false first.script first.history first.page_read) first.history (first.replies_with 2 first.other_rows ∷ []) → ⊥
+other_missed max legal =
+    let answered : Answered first.select (database_after first.script first.history 2) max (Known false first.script first.history first.page_read) first.other_rows
+    = legal.parts.rows first.select 2 first.other_rows (2, refl) refl in
+    let at_filled : Answered first.select filled max (Known false first.script first.history first.page_read) first.other_rows = rw (after_two 0) at answered in
+    let of_query : Some at_filled.query ≡ Some query = sym at_filled.is ∙ select_bound in
+    let same : at_filled.query ≡ query = cc in
+    let answer : IsAnswer query filled first.other_rows = subst (λ q. IsAnswer q filled first.other_rows) same (at_filled.answer known) in
+    no_other (subst (λ rows. IsPermutation rows first.other_rows) select_out answer)

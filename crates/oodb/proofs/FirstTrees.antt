@@ -1,7 +1,5 @@
 -- What the statements of the first script say: their lexemes and their trees.
-use Rattle.std.proofs.Common.{◌≡◌, ℕ, false, List, [], ◌∷◌, None, Ok, codes, refl}
-use Rattle.hv_row.specs.declared.schema.Column.{Column}
-use Rattle.hv_row.specs.declared.value.ColType.TheVariants as kind
+use Rattle.std.proofs.Common.{◌≡◌, ℕ, List, [], ◌∷◌, None, Ok, codes, refl}
 use Rattle.hv_model.specs.declared.lexeme.Lexeme.{Lexeme}
 use Rattle.hv_model.specs.declared.lexeme.What.{What}
 use Rattle.hv_model.specs.declared.lexeme.What.TheVariants as what
@@ -27,12 +25,6 @@ lexeme what byte = record { what = what; byte = byte }
 abbrev table : ℕ → Word
 table byte = record { name = codes "t"; byte = byte }
 
--- the columns of the table
-abbrev pub schema : List Column
-schema =
-    (record { name = codes "a"; kind = kind.Int; index = false; range = false })
-    ∷ (record { name = codes "b"; kind = kind.Text; index = false; range = false }) ∷ []
-
 -- CREATE TABLE t (a INT, b TEXT)
 abbrev create_lexemes : List Lexeme
 create_lexemes =
@@ -45,7 +37,7 @@ unfolding token_length is_lexeme is_run is_symbol sort_of
 create_lexed = refl
 
 abbrev pub create_tree : Ast
-create_tree = ast.Create (table 13) schema
+create_tree = ast.Create (table 13) first.schema
 
 create_read : tree_at create_lexemes ≡ Ok create_tree
 unfolding statement_at create_at column_at column_type_at

@@ -1,8 +1,8 @@
 -- Rows that go behind others, page by page, and the entries of a page of packed rows.
-use Rattle.std.proofs.Common.{◌≡◌, ℕ, zero, suc, ◌+◌, ◌<◌, ◌≤◌, Bool, true, List, [], ◌∷◌, ◌++◌, length, get_or, take, map, Some, slice_get, refl, sym, ap, subst, ◌∙◌, append_assoc, add-zero, arith}
+use Rattle.std.proofs.Common.{◌≡◌, ℕ, zero, suc, ◌+◌, ◌<◌, ◌≤◌, List, [], ◌∷◌, ◌++◌, length, get_or, take, map, Some, slice_get, refl, sym, ap, subst, ◌∙◌, append_assoc, add-zero, arith}
 use Rattle.std.specs.List.{AllByRecursion}
-use Rattle.std.proofs.lemmas.List.{append-nil, map-append, take_more, take_all}
-use Rattle.std.proofs.lemmas.List.Elements.{All-push, All-append, recursion_from_All}
+use Rattle.std.proofs.lemmas.List.{append-nil, map-append, take_more, take_all, length-take-le}
+use Rattle.std.proofs.lemmas.List.Elements.{All-nil, All-push, All-append, recursion_from_All}
 use Rattle.std.proofs.lemmas.Grind.{flat_map-append}
 use Rattle.hv_row.specs.declared.value.Value.{Value}
 use Rattle.hv_row.specs.declared.schema.Column.{Column}
@@ -13,7 +13,8 @@ use Rattle.hv_page.specs.Heap.{heap_kind, IsHeapEntry, IsHeapPage}
 use Rattle.hv_page.specs.Chunk.{IsPacked, IsStored, heap_pages_from, AreHeapPages}
 use Rattle.hv_chunk.proofs.Packing.{flat}
 use Rattle.hv_chunk.proofs.Growing.{pages_count}
-use Rattle.oodb.specs.RowsRead.{AddsRows, HasEntries}
+use Rattle.hv_view.specs.View.{Viewed, IsRecorded}
+use Rattle.oodb.specs.RowsRead.{AddsRows, AddsPage, HasEntries}
 
 -- ---- rows that go behind others
 
@@ -49,6 +50,16 @@ adds_page schema parts k before now after lt adds more =
     let grown : flat (take (k + 1) parts) ≡ flat (take k parts) ++ get_or parts k [] =
     ap flat (take_more parts k [] lt) ∙ flat_map-append (λ (part : List (List ℕ)). part) (take k parts) (get_or parts k [] ∷ []) ∙ ap (λ (l : List (List ℕ)). flat (take k parts) ++ l) (append-nil (get_or parts k [])) in
     subst (λ (entries : List (List ℕ)). AddsRows schema entries before after) (sym grown) (adds_both schema (flat (take k parts)) (get_or parts k []) before now after adds more)
+
+-- the rows of what is seen of a page are those of its entries
+pub adds_seen : (schema its : List Column) (pages : List (List ℕ)) (page : ℕ) (bytes seen : List ℕ) (view entries : List (List ℕ)) (before after : List (List Value)) → its ≡ schema → seen ≡ bytes → slice_get pages page ≡ Some bytes
+    → HasEntries schema pages page entries → ((found : List (List ℕ)) → IsHeapPage written_version page its seen found → view ≡ found) → AddsRows its view before after → AddsRows schema entries before after
+adds_seen schema its pages page bytes seen view entries before after of same stands has only adds =
+    let both : Some has.bytes ≡ Some bytes = sym has.stands ∙ stands in
+    let equal : has.bytes ≡ seen = cc in
+    let whole : IsHeapPage written_version page its seen entries =
+    subst (λ (s : List Column). IsHeapPage written_version page s seen entries) (sym of) (subst (λ (b : List ℕ). IsHeapPage written_version page schema b entries) equal has.whole) in
+    subst (λ (es : List (List ℕ)). AddsRows schema es before after) (only entries whole) (subst (λ (s : List Column). AddsRows s view before after) of adds)
 
 -- ---- rows by their bytes
 
@@ -131,21 +142,27 @@ pub record AreParts (schema : List Column) (pages : List (List ℕ)) (count : �
 parts_are : (schema : List Column) (pages : List (List ℕ)) (rows : List (List Value)) (heap : AreHeapPages written_version schema pages rows) → AreParts schema pages (length pages) heap.parts
 parts_are schema pages rows heap = record { counted = sym (part_count schema pages rows heap); each = page_entries schema pages rows heap }
 
--- the rows of the first pages went behind others, where the pages are known
-abbrev pub AddsPages : Bool → List Column → List (List ℕ) → ℕ → ℕ → List (List Value) → List (List Value) → Type 0
-AddsPages tells schema pages count page before now =
-    tells ≡ true → (parts : List (List (List ℕ))) → AreParts schema pages count parts → AddsRows schema (flat (take page parts)) before now
+-- the rows of the first pages of a chunk went behind others, where its content is known
+abbrev pub AddsPages : {File : Type 0} → Type 0 → Viewed File → ℕ → List (List Value) → List (List Value) → Type 0
+AddsPages known chunk page before now =
+    known → (pages : List (List ℕ)) (parts : List (List (List ℕ))) → AreHeapPages chunk.version chunk.schema pages chunk.rows → AreParts chunk.schema pages chunk.heap_pages parts
+    → AddsRows chunk.schema (flat (take page parts)) before now
 
-pub adds_pages_more : (tells : Bool) (schema : List Column) (pages : List (List ℕ)) (count page : ℕ) (before now after : List (List Value)) → page < count → AddsPages tells schema pages count page before now
-    → (tells ≡ true → (entries : List (List ℕ)) → HasEntries schema pages page entries → AddsRows schema entries now after) → AddsPages tells schema pages count (page + 1) before after
-adds_pages_more tells schema pages count page before now after lt adds more told parts are =
-    adds_page schema parts page before now after (omega (arith, are.counted)) (adds told parts are) (more told (get_or parts page []) (are.each page lt))
+pub adds_pages_none : {File : Type 0} (known : Type 0) (chunk : Viewed File) (before : List (List Value)) → AddsPages known chunk 0 before before
+adds_pages_none known chunk before is pages parts heap are = record { rows = []; fit = All-nil (RowFits chunk.schema); spelt = refl; added = sym (append-nil before) }
+
+pub adds_pages_more : {File : Type 0} (sooner known : Type 0) (chunk : Viewed File) (page : ℕ) (before now after : List (List Value)) → (known → sooner) → page < chunk.heap_pages → AddsPages sooner chunk page before now
+    → (known → AddsPage chunk page now after) → AddsPages known chunk (page + 1) before after
+adds_pages_more sooner known chunk page before now after follows lt adds more is pages parts heap are =
+    adds_page chunk.schema parts page before now after (omega (arith, are.counted)) (adds (follows is) pages parts heap are) (more is pages heap (get_or parts page []) (are.each page lt))
 
 -- so all rows did
-pub adds_pages_all : (tells : Bool) (schema : List Column) (pages written : List (List ℕ)) (count page : ℕ) (rows : List (List Value)) (before now : List (List Value)) → AreHeapPages written_version schema written rows → count ≡ length written → count ≤ page
-    → (tells ≡ true → pages ≡ written) → AddsPages tells schema pages count page before now → tells ≡ true → now ≡ before ++ rows
-adds_pages_all tells schema pages written count page rows before now heap all end file adds told =
-    let same : pages ≡ written = file told in
-    let parts : AreParts schema pages count heap.parts = subst (λ (n : ℕ). AreParts schema pages n heap.parts) (sym all) (subst (λ (l : List (List ℕ)). AreParts schema l (length written) heap.parts) (sym same) (parts_are schema written rows heap)) in
+pub adds_pages_all : {File : Type 0} (known : Type 0) (chunk : Viewed File) (page : ℕ) (before now : List (List Value)) → IsRecorded chunk.schema chunk.rows chunk → chunk.heap_pages ≤ page
+    → AddsPages known chunk page before now → known → now ≡ before ++ chunk.rows
+adds_pages_all known chunk page before now recorded end adds is =
+    let pages = take chunk.heap_pages recorded.written in
+    let heap : AreHeapPages written_version chunk.schema pages chunk.rows = subst (λ (v : ℕ). AreHeapPages v chunk.schema pages chunk.rows) recorded.version_is recorded.is_chunk.heap in
+    let count : length pages ≡ chunk.heap_pages = length-take-le chunk.heap_pages recorded.written recorded.is_chunk.within in
+    let parts : AreParts chunk.schema pages chunk.heap_pages heap.parts = subst (λ (n : ℕ). AreParts chunk.schema pages n heap.parts) count (parts_are chunk.schema pages chunk.rows heap) in
     let whole : take page heap.parts ≡ heap.parts = take_all page heap.parts (omega (arith, parts.counted)) in
-    adds_all schema (flat (take page heap.parts)) rows before now heap.stored (ap flat whole ∙ heap.slots) (adds told heap.parts parts)
+    adds_all chunk.schema (flat (take page heap.parts)) chunk.rows before now heap.stored (ap flat whole ∙ heap.slots) (adds is pages heap.parts recorded.is_chunk.heap parts)

@@ -1,5 +1,5 @@
 -- Stored tables as the tables of a database: look-ups, and one table changed.
-use Rattle.std.proofs.Common.{◌≡◌, ℕ, zero, suc, ◌+◌, ◌<◌, Bool, cond, not, List, [], ◌∷◌, ◌++◌, length, get_or, map, Option, Some, None, Ok, IsSomeAnd, refl, sym, ◌∙◌, ap, subst, arith}
+use Rattle.std.proofs.Common.{◌≡◌, ℕ, zero, suc, ◌+◌, ◌-◌, ◌<◌, Bool, cond, not, List, [], ◌∷◌, ◌++◌, length, get_or, map, Option, Some, None, Ok, IsSomeAnd, refl, sym, ◌∙◌, ap, subst, arith, length-append, append-nil}
 use Rattle.std.specs.List.{position, prefix_len, slice_get, slice_set, AllByRecursion}
 use Rattle.std.specs.Option.{option_map}
 use Rattle.std.proofs.Math.Seq.{map-set_same}
@@ -9,12 +9,15 @@ use Rattle.hv_row.specs.declared.value.Value.{Value}
 use Rattle.hv_model.specs.declared.catalogue.Table.{Table}
 use Rattle.hv_model.specs.declared.catalogue.Database.{Database}
 use Rattle.hv_model.specs.declared.catalogue.Command.TheVariants.{Import}
+use Rattle.hv_model.proofs.Places.{slice_get-last}
 use Rattle.hv_model.specs.Database.{table_number, import_refusal, import_into, import_at, unless, with_chunk, with_last_chunk, step}
-use Rattle.hv_chunk.specs.Building.{IsBuilt}
+use Rattle.hv_view.specs.View.{IsBuilt}
 use Rattle.oodb.specs.declared.store.StoredChunk.{StoredChunk}
 use Rattle.oodb.specs.declared.store.StoredTable.{StoredTable}
 use Rattle.oodb.specs.declared.store.Store.{Store}
-use Rattle.oodb.specs.Stored.{chunk_of, table_of, database_of, TableIsSound}
+use Rattle.oodb.specs.Damage.{IsFileOf}
+use Rattle.oodb.specs.Stored.{chunk_of, table_of, database_of, TableIsSound, AreFiles, HasFiles}
+use Rattle.oodb.proofs.Landed.{get_longer}
 
 prefix_len-map : {X Y : Type 0} (f : X → Y) (p : Y → Bool) (xs : List X) → prefix_len p (map f xs) ≡ prefix_len (λ x. p (f x)) xs
 prefix_len-map f p [] = refl
@@ -103,3 +106,63 @@ step_import s at t u c name within is allowed named schema chunks numbered found
 -- the table of a number in the database
 pub table_stands : {File : Type 0} (s : Store File) (at : ℕ) (t : StoredTable File) → slice_get s.tables.items at ≡ Some t → slice_get (database_of s).tables at ≡ Some (table_of t)
 table_stands s at t stands = slice_get-map table_of s.tables.items at ∙ ap (option_map table_of) stands
+
+-- ---- the files of the chunks
+
+-- the files of a table's chunks are among these
+abbrev pub HasItsFiles : {File : Type 0} → List File → StoredTable File → Type 0
+HasItsFiles files t = AllByRecursion (λ c. IsFileOf files c.number c.chunk.file) t.chunks.items
+
+all_so : {X : Type 0} (P Q : X → Type 0) (xs : List X) → ((x : X) → P x → Q x) → AllByRecursion P xs → AllByRecursion Q xs
+all_so P Q [] so all = tt
+all_so P Q (x ∷ xs) so all = (so x all.0, all_so P Q xs so all.1)
+
+-- a file of a number is that of the number among more files
+pub file_longer : {File : Type 0} (files more : List File) (number : ℕ) (file : File) → IsFileOf files number file → IsFileOf (files ++ more) number file
+file_longer files more number file is = (is.0, get_longer files more (number - 1) file is.1)
+
+-- nothing has changed
+pub files_kept : {File : Type 0} (s new : Store File) (files : List File) → new.tables.items ≡ s.tables.items → new.made ≡ s.made → AreFiles s files → AreFiles new files
+files_kept {File} s new files tables made are = record {
+  count = are.count ∙ sym made;
+  each = subst (λ (its : List (StoredTable File)). AllByRecursion (HasItsFiles files) its) (sym tables) are.each;
+}
+
+-- a table without a chunk was put behind the others
+pub files_pushed : {File : Type 0} (s new : Store File) (t : StoredTable File) (files : List File) → new.tables.items ≡ s.tables.items ++ t ∷ [] → t.chunks.items ≡ [] → new.made ≡ s.made → AreFiles s files → AreFiles new files
+files_pushed {File} s new t files tables none made are = record {
+  count = are.count ∙ sym made;
+  each = subst (λ (its : List (StoredTable File)). AllByRecursion (HasItsFiles files) its) (sym tables)
+      (all_more (HasItsFiles files) s.tables.items t are.each (subst (λ (cs : List (StoredChunk File)). AllByRecursion (λ c. IsFileOf files c.number c.chunk.file) cs) (sym none) tt));
+}
+
+-- a table with the same chunks is in the place of another
+pub files_set : {File : Type 0} (s new : Store File) (at : ℕ) (t u : StoredTable File) (files : List File) → at < length s.tables.items → t ≡ get_or s.tables.items at t → new.tables.items ≡ slice_set s.tables.items at u
+    → u.chunks.items ≡ t.chunks.items → new.made ≡ s.made → AreFiles s files → AreFiles new files
+files_set {File} s new at t u files within is tables chunks made are =
+    let was : HasItsFiles files t = all_stands (HasItsFiles files) s.tables.items at t are.each (stands_at s.tables.items at t within is) in record {
+      count = are.count ∙ sym made;
+      each = subst (λ (its : List (StoredTable File)). AllByRecursion (HasItsFiles files) its) (sym tables)
+          (all_set (HasItsFiles files) s.tables.items at u are.each (subst (λ (cs : List (StoredChunk File)). AllByRecursion (λ c. IsFileOf files c.number c.chunk.file) cs) (sym chunks) was));
+    }
+
+-- a table with one chunk more is in the place of another
+pub files_more : {File : Type 0} (s new : Store File) (at : ℕ) (t u : StoredTable File) (c : StoredChunk File) (files : List File) → at < length s.tables.items → t ≡ get_or s.tables.items at t → new.tables.items ≡ slice_set s.tables.items at u
+    → u.chunks.items ≡ t.chunks.items ++ c ∷ [] → c.number ≡ s.made + 1 → new.made ≡ s.made + 1 → AreFiles s files → AreFiles new (files ++ c.chunk.file ∷ [])
+files_more {File} s new at t u c files within is tables chunks numbered made are =
+    let more = files ++ c.chunk.file ∷ [] in
+    let each : AllByRecursion (HasItsFiles more) s.tables.items =
+    all_so (HasItsFiles files) (HasItsFiles more) s.tables.items
+    (λ t all. all_so (λ c. IsFileOf files c.number c.chunk.file) (λ c. IsFileOf more c.number c.chunk.file) t.chunks.items (λ d is. file_longer files (c.chunk.file ∷ []) d.number d.chunk.file is) all) are.each in
+    let was : HasItsFiles more t = all_stands (HasItsFiles more) s.tables.items at t each (stands_at s.tables.items at t within is) in
+    let place : c.number - 1 ≡ length files = (let count : length files ≡ s.made = are.count in omega arith) in
+    let last : IsFileOf more c.number c.chunk.file = (omega arith, ap (slice_get more) place ∙ slice_get-last files c.chunk.file) in
+    let its : AllByRecursion (λ c. IsFileOf more c.number c.chunk.file) u.chunks.items =
+    subst (λ (cs : List (StoredChunk File)). AllByRecursion (λ c. IsFileOf more c.number c.chunk.file) cs) (sym chunks) (all_more (λ c. IsFileOf more c.number c.chunk.file) t.chunks.items c was last) in record {
+      count = length-append files (c.chunk.file ∷ []) ∙ ap (λ n. n + 1) are.count ∙ sym made;
+      each = subst (λ (l : List (StoredTable File)). AllByRecursion (HasItsFiles more) l) (sym tables) (all_set (HasItsFiles more) s.tables.items at u each its);
+    }
+
+-- these are all
+pub has_files : {File : Type 0} (s : Store File) (files : List File) → AreFiles s files → HasFiles s files
+has_files {File} s files are = record { more = []; are = subst (λ (all : List File). AreFiles s all) (sym (append-nil files)) are }

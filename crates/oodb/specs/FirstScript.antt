@@ -1,5 +1,13 @@
--- A first script with its history and replies, and the same with one reply told a length too early.
-use Rattle.std.specs.Prelude.{ℕ, List, [], ◌∷◌, codes, pos}
+-- A first script with its history and its replies, told rightly and wrongly, and a read of its one page as it was written.
+use Rattle.std.specs.Prelude.{ℕ, false, List, [], ◌∷◌, codes, pos}
+use Rattle.hv_row.specs.declared.schema.Column.{Column}
+use Rattle.hv_row.specs.declared.value.ColType.TheVariants as kind
+use Rattle.hv_row.specs.declared.value.Value.{Value}
+use Rattle.hv_row.specs.declared.value.Value.TheVariants.{Int, Text}
+use Rattle.hv_row.specs.Row.{row_bytes}
+use Rattle.hv_page.specs.Layout.{page_of, written_version}
+use Rattle.hv_page.specs.Heap.{heap_kind}
+use Rattle.hv_dev.specs.Reading.{Landing}
 use Rattle.hv_model.specs.declared.script.Statement.{Statement}
 use Rattle.hv_model.specs.declared.script.Script.{Script}
 use Rattle.hv_model.specs.declared.catalogue.Detail.TheVariants as detail
@@ -37,6 +45,29 @@ history = made ∷ imported ∷ []
 abbrev pub rows : List (List Cell)
 rows = (Num (pos 1) ∷ Txt (codes "a") ∷ []) ∷ []
 
--- the replies, the last with its number
+-- the same with another number in the row
+abbrev pub other_rows : List (List Cell)
+other_rows = (Num (pos 2) ∷ Txt (codes "a") ∷ []) ∷ []
+
+-- the replies, the last with its number and its rows
+abbrev pub replies_with : ℕ → List (List Cell) → List Reply
+replies_with n of_query = Done 1 (detail.Create (codes "t")) ∷ Done 2 (detail.Import (codes "t") 1 1) ∷ Rows n of_query ∷ []
+
 abbrev pub replies_at : ℕ → List Reply
-replies_at n = Done 1 (detail.Create (codes "t")) ∷ Done 2 (detail.Import (codes "t") 1 1) ∷ Rows n rows ∷ []
+replies_at n = replies_with n rows
+
+-- the table's columns, and the row that is imported
+abbrev pub schema : List Column
+schema =
+    (record { name = codes "a"; kind = kind.Int; index = false; range = false })
+    ∷ (record { name = codes "b"; kind = kind.Text; index = false; range = false }) ∷ []
+
+abbrev pub row : List Value
+row = Int (pos 1) ∷ Text (codes "a") ∷ []
+
+-- the one page of the chunk, and a read of it that landed: its file is the number 1
+abbrev pub page : List ℕ
+page = page_of heap_kind written_version 0 (row_bytes schema row ∷ [])
+
+abbrev pub page_read : List (Landing ℕ)
+page_read = (record { tag = 0; file = 1; page = 0; bytes = page }) ∷ []

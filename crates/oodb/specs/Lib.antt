@@ -6,8 +6,10 @@ pub mod RowsRead
 pub mod Stored
 pub mod Imported
 pub mod Answer
+pub mod Told
 pub mod Outcome
 pub mod Status
 pub mod Statuses
 pub mod InMemory
 pub mod FirstScript
+pub mod Known

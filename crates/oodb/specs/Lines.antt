@@ -28,7 +28,3 @@ fault_line name byte = codes "fault " ++ fault_name name ++ codes " " ++ decimal
 pub record Handed (outcome : Result (Unit {0}) PutAll) (start : Seen) (text : List ℕ) (now : Seen) : Type 0 where
   pub all : OnOk outcome (TookAll start text now)
   pub part : IfErr outcome (λ cause. Stopped start text now cause)
-
--- the bytes were handed over behind whatever text was before
-abbrev pub HandsMore : List ℕ → Result (Unit {0}) PutAll → Seen → Result (Unit {0}) PutAll → Seen → Type 0
-HandsMore bytes old before outcome after = (start : Seen) (text : List ℕ) → Handed old start text before → Handed outcome start (text ++ bytes) after

@@ -1,13 +1,17 @@
--- What went into a run and what came out of it: the one relation that every clause of the top call follows from.
-use Rattle.std.specs.Prelude.{◌≡◌, ◌⊎◌, ℕ, Bool, true, false, List, [], ◌∷◌, Option, Result, Ok, Err, IfSome, if◌then◌else◌}
+-- What went into a run and what came out of it: one relation by cases over the status, of which each clause of the top call is a branch.
+use Rattle.std.specs.Prelude.{◌≡◌, ◌⊎◌, ℕ, Bool, true, false, List, [], ◌∷◌, Option, Result, Ok, Err, IsOk, IfSome, if◌then◌else◌}
 use Rattle.std.specs.List.{list_any}
 use Rattle.hv_io.specs.Bytes.{Seen}
+use Rattle.hv_io.specs.Seen.{seen}
+use Rattle.hv_io.specs.declared.source.Source as source
+use Rattle.hv_io.specs.declared.sink.Sink as sink
+use Rattle.hv_dev.specs.declared.device.Device as device
 use Rattle.hv_dev.specs.Reading.{Back}
 use Rattle.hv_io.specs.Counts.{Rose}
 use Rattle.hv_io.specs.Putting.{TookAll, Stopped}
 use Rattle.hv_io.specs.declared.writing.PutAll.{PutAll}
 use Rattle.hv_model.specs.declared.script.Script.{Script}
-use Rattle.hv_model.specs.declared.script.Options.{Options}
+use Rattle.hv_script.specs.declared.words.Options.{Options}
 use Rattle.hv_model.specs.declared.script.FaultName.{FaultName}
 use Rattle.hv_model.specs.declared.catalogue.Entry.{Entry}
 use Rattle.hv_model.specs.declared.reply.Reply.{Reply}
@@ -15,20 +19,32 @@ use Rattle.hv_model.specs.declared.reply.Reply.TheVariants as reply
 use Rattle.hv_model.specs.Script.{IsScript, IsFault}
 use Rattle.hv_model.specs.Legal.{Legal}
 use Rattle.hv_model.specs.Report.{report_text}
-use Rattle.hv_model.specs.Words.{max_of}
+use Rattle.hv_script.specs.Words.{max_of}
 use Rattle.oodb.specs.declared.status.Status.{Status}
 use Rattle.oodb.specs.declared.status.Status.TheVariants as status
 use Rattle.oodb.specs.Lines.{word_line, fault_line}
+use Rattle.oodb.specs.Known.{Known}
 use Rattle.oodb.specs.Causes.{AreCaused}
+use Rattle.oodb.specs.Told.{IsTold}
 
 -- what a clause sees of a source
-pub record Told : Type 0 where
+pub record SourceSeen : Type 0 where
   pub left : Option (List ℕ)
   pub faults : ℕ
 
--- a source by its bound's members
-abbrev pub told : {S : Type 0} → (S → Option (List ℕ)) → (S → ℕ) → S → Told
-told left faults source = record { left = left source; faults = faults source }
+-- what is around a run: its source, its sink and its device
+pub record Around (File : Type 0) : Type 0 where
+  pub source : SourceSeen
+  pub sink : Seen
+  pub device : Back File
+
+-- a source by its bound, as `source_seen S.Source script.old`
+abbrev pub source_seen : {S : Type 0} → source.Ghosts S → S → SourceSeen
+source_seen s given = record { left = s.left given; faults = s.faults given }
+
+-- the three by their bounds' members
+abbrev pub around : {S K D Port File : Type 0} → source.Ghosts S → sink.Ghosts K → device.Ghosts D Port File → S → K → D → Around File
+around s k d given out dev = record { source = source_seen s given; sink = seen k out; device = d.returned dev }
 
 -- whether a reply says that its statement failed
 abbrev pub is_failed : Reply → Bool
@@ -40,6 +56,90 @@ is_failed (reply.Failed at cause) = true
 -- the status of a report that was taken whole
 abbrev pub status_of : List Reply → Status
 status_of replies = if list_any is_failed replies then status.SomeFailed else status.Fine
+
+-- the statuses of a report that was taken whole
+abbrev pub IsReported : Status → Type 0
+IsReported now = (now ≡ status.Fine) ⊎ (now ≡ status.SomeFailed)
+
+-- the most rows of a query of one place that the words allow
+abbrev pub max_of_words : Result Options ℕ → ℕ
+max_of_words (Ok chosen) = max_of chosen
+max_of_words (Err i) = 0
+
+-- a word is at fault, the source is unread and the device as it was: the text is the word's line
+pub record IsWordLine {File : Type 0} (chosen : Result Options ℕ) (text : List ℕ) (before after : Around File) : Type 0 where
+  pub word : ℕ
+  pub is : chosen ≡ Err word
+  pub unread : after.source ≡ before.source
+  pub still : after.device ≡ before.device
+  pub line : text ≡ word_line word
+
+-- the source's bytes have a fault and the device is as it was: the text is the fault's line
+pub record IsFaultLine {File : Type 0} (chosen : Result Options ℕ) (text : List ℕ) (before after : Around File) : Type 0 where
+  pub words : IsOk chosen
+  pub calm : after.source.faults ≡ before.source.faults
+  pub name : FaultName
+  pub byte : ℕ
+  pub fault : IfSome before.source.left (λ bytes. IsFault bytes name byte)
+  pub still : after.device ≡ before.device
+  pub line : text ≡ fault_line name byte
+
+-- one history and one list of replies, legal for the script of the source's bytes and caused by what became of the device: the text is the report on them, with
+-- the status that it has once it is taken
+pub record IsReport {File : Type 0} (tells : Bool) (chosen : Result Options ℕ) (full : Status) (text : List ℕ) (before after : Around File) : Type 0 where
+  pub words : IsOk chosen
+  pub calm : after.source.faults ≡ before.source.faults
+  pub script : Script
+  pub history : List Entry
+  pub replies : List Reply
+  pub script_is : IfSome before.source.left (λ bytes. IsScript bytes script)
+  pub causes : AreCaused tells script history replies before.device after.device
+  pub legal : Legal script (max_of_words chosen) (Known tells script history causes.landed) history (replies ∷ [])
+  pub told : IsTold script history replies
+  pub is : text ≡ report_text script history (replies ∷ [])
+  pub status : full ≡ status_of replies
+
+-- a text of this kind was taken whole
+pub record Took (Is : List ℕ → Type 0) (before after : Seen) : Type 0 where
+  pub text : List ℕ
+  pub is : Is text
+  pub took : TookAll before text after
+
+-- what the sink took, by the status: the report on a legal outcome, the line of a word, the line of a fault
+abbrev pub TookReport : {File : Type 0} → Bool → Result Options ℕ → Status → Around File → Around File → Type 0
+TookReport tells chosen now before after = Took (λ text. IsReport tells chosen now text before after) before.sink after.sink
+
+abbrev pub TookWordLine : {File : Type 0} → Result Options ℕ → Around File → Around File → Type 0
+TookWordLine chosen before after = Took (λ text. IsWordLine chosen text before after) before.sink after.sink
+
+abbrev pub TookFaultLine : {File : Type 0} → Result Options ℕ → Around File → Around File → Type 0
+TookFaultLine chosen before after = Took (λ text. IsFaultLine chosen text before after) before.sink after.sink
+
+-- the source failed, nothing was taken and the device is as it was
+pub record SourceFailed {File : Type 0} (chosen : Result Options ℕ) (before after : Around File) : Type 0 where
+  pub words : IsOk chosen
+  pub rose : Rose before.source.faults after.source.faults
+  pub silent : after.sink ≡ before.sink
+  pub still : after.device ≡ before.device
+
+-- want of memory before the first statement: nothing was taken and the device is as it was
+pub record NoMemory {File : Type 0} (chosen : Result Options ℕ) (before after : Around File) : Type 0 where
+  pub words : IsOk chosen
+  pub calm : after.source.faults ≡ before.source.faults
+  pub silent : after.sink ≡ before.sink
+  pub still : after.device ≡ before.device
+
+-- a text that a run may hand over
+abbrev pub MayWrite : {File : Type 0} → Bool → Result Options ℕ → List ℕ → Around File → Around File → Type 0
+MayWrite tells chosen text before after =
+    IsWordLine chosen text before after ⊎ (IsFaultLine chosen text before after ⊎ ((full : Status) × IsReport tells chosen full text before after))
+
+-- the sink took a prefix of such a text, and then it failed or took nothing
+pub record CutShort {File : Type 0} (tells : Bool) (chosen : Result Options ℕ) (before after : Around File) : Type 0 where
+  pub text : List ℕ
+  pub may : MayWrite tells chosen text before after
+  pub cause : PutAll
+  pub stopped : Stopped before.sink text after.sink cause
 
 -- a text was handed over: all of it was taken and this is the status, or a prefix up to a fault of the sink
 pub record Whole (text : List ℕ) (full now : Status) (before after : Seen) : Type 0 where
@@ -54,107 +154,17 @@ pub record Cut (text : List ℕ) (now : Status) (before after : Seen) : Type 0 w
 abbrev pub HandsOver : List ℕ → Status → Status → Seen → Seen → Type 0
 HandsOver text full now before after = Whole text full now before after ⊎ Cut text now before after
 
--- a word is at fault: its line, and the source is unread
-pub record BadWord {File : Type 0} (i : ℕ) (now : Status) (source_before source_after : Told) (before after : Seen) (dev_before dev_after : Back File) : Type 0 where
-  pub still : dev_after ≡ dev_before
-  pub unread : source_after ≡ source_before
-  pub over : HandsOver (word_line i) status.Words now before after
+-- what a run made of its words, its source, its sink and its device, whose files tell what they hold or don't
+abbrev pub Answers : {File : Type 0} → Bool → Result Options ℕ → Status → Around File → Around File → Type 0
+Answers tells chosen status.Fine before after = TookReport tells chosen status.Fine before after
+Answers tells chosen status.SomeFailed before after = TookReport tells chosen status.SomeFailed before after
+Answers tells chosen status.Words before after = TookWordLine chosen before after
+Answers tells chosen status.Script before after = TookFaultLine chosen before after
+Answers tells chosen status.SourceFault before after = SourceFailed chosen before after
+Answers tells chosen status.SinkFault before after = CutShort tells chosen before after
+Answers tells chosen status.Memory before after = NoMemory chosen before after
 
--- the source failed, and nothing was taken
-pub record BadSource {File : Type 0} (now : Status) (source_before source_after : Told) (before after : Seen) (dev_before dev_after : Back File) : Type 0 where
-  pub still : dev_after ≡ dev_before
-  pub status : now ≡ status.SourceFault
-  pub rose : Rose source_before.faults source_after.faults
-  pub silent : after ≡ before
-
--- want of memory before the first statement, and nothing was taken
-pub record NoMemory {File : Type 0} (now : Status) (source_before source_after : Told) (before after : Seen) (dev_before dev_after : Back File) : Type 0 where
-  pub still : dev_after ≡ dev_before
-  pub status : now ≡ status.Memory
-  pub calm : source_after.faults ≡ source_before.faults
-  pub silent : after ≡ before
-
--- the script has a fault: its line
-pub record BadScript {File : Type 0} (now : Status) (source_before source_after : Told) (before after : Seen) (dev_before dev_after : Back File) : Type 0 where
-  pub still : dev_after ≡ dev_before
-  pub name : FaultName
-  pub byte : ℕ
-  pub calm : source_after.faults ≡ source_before.faults
-  pub fault : IfSome source_before.left (λ bytes. IsFault bytes name byte)
-  pub over : HandsOver (fault_line name byte) status.Script now before after
-
--- the report on a legal outcome of the script
-pub record Reported {File : Type 0} (tells : Bool) (max : ℕ) (now : Status) (source_before source_after : Told) (before after : Seen) (dev_before dev_after : Back File) : Type 0 where
-  pub script : Script
-  pub history : List Entry
-  pub replies : List Reply
-  pub calm : source_after.faults ≡ source_before.faults
-  pub script_is : IfSome source_before.left (λ bytes. IsScript bytes script)
-  pub legal : Legal script max tells history (replies ∷ [])
-  pub causes : AreCaused tells script history replies dev_before dev_after
-  pub over : HandsOver (report_text script history (replies ∷ [])) (status_of replies) now before after
-
--- the report on a script that was read: a legal outcome and its text; or want of memory before the first statement, and nothing was taken
-pub record ReportedOn {File : Type 0} (tells : Bool) (script : Script) (now : Status) (before after : Seen) (dev_before dev_after : Back File) : Type 0 where
-  pub history : List Entry
-  pub replies : List Reply
-  pub legal : (max : ℕ) → Legal script max tells history (replies ∷ [])
-  pub causes : AreCaused tells script history replies dev_before dev_after
-  pub over : HandsOver (report_text script history (replies ∷ [])) (status_of replies) now before after
-
-pub record Silent {File : Type 0} (now : Status) (before after : Seen) (dev_before dev_after : Back File) : Type 0 where
-  pub still : dev_after ≡ dev_before
-  pub status : now ≡ status.Memory
-  pub silent : after ≡ before
-
+-- a script that was read is reported on, whatever its source was
 abbrev pub ReportsOn : {File : Type 0} → Bool → Script → Status → Seen → Seen → Back File → Back File → Type 0
-ReportsOn tells script now before after dev_before dev_after =
-    Silent now before after dev_before dev_after ⊎ ReportedOn tells script now before after dev_before dev_after
-
--- what may become of a script
-abbrev pub Reads : {File : Type 0} → Bool → ℕ → Status → Told → Told → Seen → Seen → Back File → Back File → Type 0
-Reads tells max now source_before source_after before after dev_before dev_after =
-    BadSource now source_before source_after before after dev_before dev_after ⊎ (NoMemory now source_before source_after before after dev_before dev_after
-    ⊎ (BadScript now source_before source_after before after dev_before dev_after ⊎ Reported tells max now source_before source_after before after dev_before dev_after))
-
--- what a run makes of its words, its source, its sink and its device, whose files tell what they hold or don't
-abbrev pub Answers : {File : Type 0} → Bool → Result Options ℕ → Status → Told → Told → Seen → Seen → Back File → Back File → Type 0
-Answers tells (Err i) now source_before source_after before after dev_before dev_after = BadWord i now source_before source_after before after dev_before dev_after
-Answers tells (Ok chosen) now source_before source_after before after dev_before dev_after = Reads tells (max_of chosen) now source_before source_after before after dev_before dev_after
-
--- the statuses of a report that was taken whole
-abbrev pub IsReported : Status → Type 0
-IsReported now = (now ≡ status.Fine) ⊎ (now ≡ status.SomeFailed)
-
--- the report that was taken: one history and one list of replies, legal for the script of these bytes, and the status that they have
-pub record TookReport {File : Type 0} (tells : Bool) (bytes : List ℕ) (max : ℕ) (now : Status) (before after : Seen) (dev_before dev_after : Back File) : Type 0 where
-  pub script : Script
-  pub history : List Entry
-  pub replies : List Reply
-  pub script_is : IsScript bytes script
-  pub legal : Legal script max tells history (replies ∷ [])
-  pub causes : AreCaused tells script history replies dev_before dev_after
-  pub took : TookAll before (report_text script history (replies ∷ [])) after
-  pub status : now ≡ status_of replies
-
--- the most rows of a query of one place that the words allow
-abbrev pub max_of_words : Result Options ℕ → ℕ
-max_of_words (Ok chosen) = max_of chosen
-max_of_words (Err i) = 0
-
--- the line of the first word at fault was taken
-pub record TookWordLine (chosen : Result Options ℕ) (before after : Seen) : Type 0 where
-  pub word : ℕ
-  pub is : chosen ≡ Err word
-  pub took : TookAll before (word_line word) after
-
--- the line of a fault of the script was taken
-pub record TookFaultLine (bytes : List ℕ) (before after : Seen) : Type 0 where
-  pub name : FaultName
-  pub byte : ℕ
-  pub fault : IsFault bytes name byte
-  pub took : TookAll before (fault_line name byte) after
-
--- the sink failed, or took nothing of a piece that isn't empty: one of its counts rose
-abbrev pub SinkRose : Seen → Seen → Type 0
-SinkRose before after = Rose before.faults after.faults ⊎ Rose before.zeros after.zeros
+ReportsOn tells script now before after dev_before dev_after = (chosen : Options) (from to : SourceSeen) → IfSome from.left (λ bytes. IsScript bytes script) → to.faults ≡ from.faults
+    → Answers tells (Ok chosen) now (record { source = from; sink = before; device = dev_before }) (record { source = to; sink = after; device = dev_after })

@@ -3,6 +3,7 @@ use Rattle.std.specs.Prelude.{◌≡◌, ℕ, ◌<◌, ◌≤◌, Bool, true, fa
 use Rattle.hv_io.specs.Counts.{Rose}
 use Rattle.hv_frames.specs.Frames.{Framed, Owned}
 use Rattle.hv_dev.specs.Reading.{Reading, Landing, IsPageOf, unread}
+use Rattle.hv_dev.specs.declared.sink.PageSink.{Ghosts}
 
 -- what a clause sees of a port
 pub record PortSeen (File : Type 0) : Type 0 where
@@ -10,9 +11,9 @@ pub record PortSeen (File : Type 0) : Type 0 where
   pub write_faults : ℕ
   pub written : Option (List (List ℕ))
 
--- a port by its bound's members
-abbrev pub port_seen : {P : Type 0} {File : Type 0} → (P → Reading File) → (P → ℕ) → (P → Option (List (List ℕ))) → P → PortSeen File
-port_seen reading write_faults written port = record { reading = reading port; write_faults = write_faults port; written = written port }
+-- a port by its bound, as `port_seen P.PageSink access.old.port`
+abbrev pub port_seen : {P File : Type 0} → Ghosts P File → P → PortSeen File
+port_seen sink port = record { reading = sink.reading port; write_faults = sink.write_faults port; written = sink.written port }
 
 -- a port that has done nothing yet, with room for one read
 abbrev pub fresh_port : (File : Type 0) → PortSeen File
@@ -54,18 +55,29 @@ first_bytes (frame ∷ frames) = frame.bytes
 pub record HasRead {File : Type 0} (tells : Bool) (pages : File → List (List ℕ)) (file : File) (page : ℕ) (before after : Reading File) (bytes : List ℕ) (landed : Bool) : Type 0 where
   pub reads : ReadsOn before after
   pub brought : landed ≡ true → after.landings ≡ before.landings ++ (record { tag = 0; file = file; page = page; bytes = bytes }) ∷ []
+  pub calm : landed ≡ true → after.read_faults ≡ before.read_faults
   pub true_page : tells ≡ true → landed ≡ true → IsPageOf (pages file) page bytes
-  pub lost : landed ≡ false → Rose before.read_faults after.read_faults
+  pub lost : landed ≡ false → (after.landings ≡ before.landings) × Rose before.read_faults after.read_faults
 
--- a read of a page landed that had not before
-pub record Brought {File : Type 0} (before after : List (Landing File)) (page : ℕ) : Type 0 where
+-- a read of a page of a file landed that had not before
+pub record Brought {File : Type 0} (before after : List (Landing File)) (file : File) (page : ℕ) : Type 0 where
   pub place : ℕ
   pub since : length before ≤ place
   pub read : Landing File
   pub stands : slice_get after place ≡ Some read
+  pub of_file : read.file ≡ file
   pub of_page : read.page ≡ page
 
 -- it brought these bytes
-pub record BroughtBytes {File : Type 0} (before after : List (Landing File)) (page : ℕ) (bytes : List ℕ) : Type 0 where
-  pub brought : Brought before after page
+pub record BroughtBytes {File : Type 0} (before after : List (Landing File)) (file : File) (page : ℕ) (bytes : List ℕ) : Type 0 where
+  pub brought : Brought before after file page
   pub are : brought.read.bytes ≡ bytes
+
+-- each read that landed since is of this kind
+abbrev pub AllSince : {File : Type 0} → (ℕ → Landing File → Type 0) → List (Landing File) → List (Landing File) → Type 0
+AllSince {File} Kind before after = (place : ℕ) (read : Landing File) → length before ≤ place → slice_get after place ≡ Some read → Kind place read
+
+-- neither count of a port rose
+pub record IsStill {File : Type 0} (before after : PortSeen File) : Type 0 where
+  pub reads : after.reading.read_faults ≡ before.reading.read_faults
+  pub writes : after.write_faults ≡ before.write_faults

@@ -5,6 +5,8 @@ use Rattle.hv_row.specs.declared.schema.Column.{Column}
 use Rattle.hv_row.specs.Row.{RowFits, row_bytes}
 use Rattle.hv_page.specs.Layout.{written_version}
 use Rattle.hv_page.specs.Heap.{IsHeapPage}
+use Rattle.hv_page.specs.Chunk.{AreHeapPages}
+use Rattle.hv_view.specs.View.{Viewed}
 
 -- the rows that these entries spell went behind the rows
 pub record AddsRows (schema : List Column) (entries : List (List ℕ)) (before after : List (List Value)) : Type 0 where
@@ -18,3 +20,13 @@ pub record HasEntries (schema : List Column) (pages : List (List ℕ)) (page : �
   pub bytes : List ℕ
   pub stands : slice_get pages page ≡ Some bytes
   pub whole : IsHeapPage written_version page schema bytes entries
+
+-- these bytes are a page of a chunk as it was written
+abbrev pub IsAsWritten : {File : Type 0} → Viewed File → ℕ → List ℕ → Type 0
+IsAsWritten chunk page bytes = (pages : List (List ℕ)) → AreHeapPages chunk.version chunk.schema pages chunk.rows → slice_get pages page ≡ Some bytes
+
+-- the rows of a page of a chunk, as it was written, went behind the rows
+abbrev pub AddsPage : {File : Type 0} → Viewed File → ℕ → List (List Value) → List (List Value) → Type 0
+AddsPage chunk page before after =
+    (pages : List (List ℕ)) → AreHeapPages chunk.version chunk.schema pages chunk.rows
+    → (entries : List (List ℕ)) → HasEntries chunk.schema pages page entries → AddsRows chunk.schema entries before after

@@ -1,10 +1,11 @@
 -- Tables whose rows are in sealed files, and the database that they are. This project's own.
-use Rattle.std.specs.Prelude.{ℕ, ◌≤◌, Bool, List, length, map}
+use Rattle.std.specs.Prelude.{◌≡◌, ℕ, ◌≤◌, Bool, List, ◌++◌, length, map}
 use Rattle.std.specs.List.{AllByRecursion}
 use Rattle.hv_model.specs.declared.catalogue.Chunk.{Chunk}
 use Rattle.hv_model.specs.declared.catalogue.Table.{Table}
 use Rattle.hv_model.specs.declared.catalogue.Database.{Database}
-use Rattle.hv_chunk.specs.Building.{IsBuilt}
+use Rattle.hv_view.specs.View.{IsBuilt}
+use Rattle.oodb.specs.Damage.{IsFileOf}
 use Rattle.oodb.specs.declared.store.StoredChunk.{StoredChunk}
 use Rattle.oodb.specs.declared.store.StoredTable.{StoredTable}
 use Rattle.oodb.specs.declared.store.Store.{Store}
@@ -30,3 +31,13 @@ pub record IsSound {File : Type 0} (tells : Bool) (pages : File → List (List �
   pub tables : AllByRecursion (TableIsSound tells pages) s.tables.items
   pub made : s.made ≤ s.length
   pub count : length s.tables.items ≤ s.length
+
+-- these are the files of the chunks ever made, by number: those of the chunks that stand are their files
+pub record AreFiles {File : Type 0} (s : Store File) (files : List File) : Type 0 where
+  pub count : length files ≡ s.made
+  pub each : AllByRecursion (λ t. AllByRecursion (λ c. IsFileOf files c.number c.chunk.file) t.chunks.items) s.tables.items
+
+-- so are these and some more
+pub record HasFiles {File : Type 0} (s : Store File) (files : List File) : Type 0 where
+  pub more : List File
+  pub are : AreFiles s (files ++ more)

@@ -8,10 +8,11 @@ ghost use Rattle.hv_model.specs.Parsed.{parsed, tree_of};
 ghost use Rattle.hv_model.specs.Legal.{may_fail};
 ghost use Rattle.hv_model.specs.OneSession.{Settles};
 ghost use Rattle.hv_model.specs.declared.tree.Ast.TheVariants as ast;
-ghost use Rattle.oodb.specs.Answer.{Keeps, IsImportOf, Imports};
-ghost use Rattle.oodb.specs.Stored.{database_of, IsSound};
+ghost use Rattle.oodb.specs.Answer.{Keeps, IsImportOf, Imports, AllWell, FailedOver, ReadsTables};
+ghost use Rattle.oodb.specs.Stored.{database_of, IsSound, AreFiles, HasFiles};
+ghost use Rattle.oodb.specs.Known.{DatabaseIsKnown};
 ghost use Rattle.oodb.specs.Reads.{port_seen, IsIdle, GoesOn};
-ghost use Rattle.oodb.specs.Damage.{FailedBy, RepliedBy, IsUnfailed};
+ghost use Rattle.oodb.specs.Damage.{RepliedBy, IsUnfailed};
 ghost use Rattle.oodb.specs.Imported.{IsUnbuilt};
 
 use crate::access::PageAccess;
@@ -43,10 +44,11 @@ pub fn answer<P: Port>(
     requires sound { IsSound P.File.tells P.File.pages store.old }
     requires counted { store.old.length ≡ length history.old.items }
     requires room { length history.old.items < most_entries → vec_len history.old < vec_capacity history.old }
-    requires idle { IsIdle (port_seen P.reading P.write_faults P.written access.old.port) }
-    ensures settles { (max : ℕ) → Settles statement.now max P.File.tells (database_of store.old) history.old.items result (database_of store.new) history.new.items }
-    ensures cause { RepliedBy P.File.tells (database_of store.old) (port_seen P.reading P.write_faults P.written access.old.port) (port_seen P.reading P.write_faults P.written access.new.port) result }
-    ensures goes_on { GoesOn (port_seen P.reading P.write_faults P.written access.old.port) (port_seen P.reading P.write_faults P.written access.new.port) }
+    requires idle { IsIdle (port_seen P.PageSink access.old.port) }
+    ensures settles { (max : ℕ) → Settles statement.now max (DatabaseIsKnown P.File.tells (database_of store.old) (P.reading access.new.port).landings) (database_of store.old) history.old.items result (database_of store.new) history.new.items }
+    ensures cause { (files : List P.File) → AreFiles store.old files → RepliedBy P.File.tells (database_of store.old) files (port_seen P.PageSink access.old.port) (port_seen P.PageSink access.new.port) result }
+    ensures files { (files : List P.File) → AreFiles store.old files → HasFiles store.new files }
+    ensures goes_on { GoesOn (port_seen P.PageSink access.old.port) (port_seen P.PageSink access.new.port) }
     ensures sound { IsSound P.File.tells P.File.pages store.new }
     ensures counted { store.new.length ≡ length history.new.items }
     ensures room { vec_capacity history.old ≤ vec_capacity history.new }
@@ -72,13 +74,15 @@ fn try_answer<P: Port>(
     requires sound { IsSound P.File.tells P.File.pages store.old }
     requires counted { store.old.length ≡ length history.old.items }
     requires room { length history.old.items < most_entries → vec_len history.old < vec_capacity history.old }
-    requires idle { IsIdle (port_seen P.reading P.write_faults P.written access.old.port) }
-    ensures settles { IfOk result (λ reply. (max : ℕ) → Settles statement.now max P.File.tells (database_of store.old) history.old.items reply (database_of store.new) history.new.items) }
+    requires idle { IsIdle (port_seen P.PageSink access.old.port) }
+    ensures settles { IfOk result (λ reply. (max : ℕ) → Settles statement.now max (DatabaseIsKnown P.File.tells (database_of store.old) (P.reading access.new.port).landings) (database_of store.old) history.old.items reply (database_of store.new) history.new.items) }
     ensures unfailed { IfOk result (λ reply. IsUnfailed reply) }
     ensures may { IfErr result (λ cause. may_fail (tree_of statement.now.text) cause ≡ true) }
-    ensures cause { IfErr result (λ cause. FailedBy P.File.tells (database_of store.old) (port_seen P.reading P.write_faults P.written access.old.port) (port_seen P.reading P.write_faults P.written access.new.port) cause) }
+    ensures well { OnOk result (AllWell store.old (port_seen P.PageSink access.old.port) (port_seen P.PageSink access.new.port)) }
+    ensures cause { IfErr result (λ cause. FailedOver P.File.tells store.old (port_seen P.PageSink access.old.port) (port_seen P.PageSink access.new.port) cause) }
+    ensures files { (files : List P.File) → AreFiles store.old files → HasFiles store.new files }
     ensures keeps { OnErr result (Keeps (database_of store.old) (database_of store.new) history.old.items history.new.items) }
-    ensures goes_on { GoesOn (port_seen P.reading P.write_faults P.written access.old.port) (port_seen P.reading P.write_faults P.written access.new.port) }
+    ensures goes_on { GoesOn (port_seen P.PageSink access.old.port) (port_seen P.PageSink access.new.port) }
     ensures sound { IsSound P.File.tells P.File.pages store.new }
     ensures counted { store.new.length ≡ length history.new.items }
     ensures room { vec_capacity history.old ≤ vec_capacity history.new }
@@ -138,9 +142,10 @@ fn create<F: PageFile>(
     requires sound { IsSound F.tells F.pages store.old }
     requires counted { store.old.length ≡ length history.old.items }
     requires room { length history.old.items < most_entries → vec_len history.old < vec_capacity history.old }
-    ensures settles { IfOk result (λ reply. (max : ℕ) → Settles statement.now max F.tells (database_of store.old) history.old.items reply (database_of store.new) history.new.items) }
+    ensures settles { IfOk result (λ reply. (max : ℕ) → Settles statement.now max (Unit {0}) (database_of store.old) history.old.items reply (database_of store.new) history.new.items) }
     ensures unfailed { IfOk result (λ reply. IsUnfailed reply) }
     ensures keeps { OnErr result (Keeps (database_of store.old) (database_of store.new) history.old.items history.new.items) }
+    ensures files { (files : List F) → AreFiles store.old files → HasFiles store.new files }
     ensures sound { IsSound F.tells F.pages store.new }
     ensures counted { store.new.length ≡ length history.new.items }
     ensures room { vec_capacity history.old ≤ vec_capacity history.new }
@@ -177,11 +182,12 @@ fn import<P: PageSink>(
     requires counted { store.old.length ≡ length history.old.items }
     requires room { length history.old.items < most_entries → vec_len history.old < vec_capacity history.old }
     requires empty { P.written port.old ≡ Some [] }
-    ensures settles { IfOk result (λ reply. (max : ℕ) → Settles statement.now max P.File.tells (database_of store.old) history.old.items reply (database_of store.new) history.new.items) }
+    ensures settles { IfOk result (λ reply. (max : ℕ) → Settles statement.now max (Unit {0}) (database_of store.old) history.old.items reply (database_of store.new) history.new.items) }
     ensures unfailed { IfOk result (λ reply. IsUnfailed reply) }
     ensures calm { OnOk result (P.write_faults port.new ≡ P.write_faults port.old) }
     ensures cause { IfErr result (λ failure. IsUnbuilt failure (P.write_faults port.old) (P.write_faults port.new)) }
     ensures keeps { OnErr result (Keeps (database_of store.old) (database_of store.new) history.old.items history.new.items) }
+    ensures files { (files : List P.File) → AreFiles store.old files → HasFiles store.new files }
     ensures empty { P.written port.new ≡ Some [] }
     ensures kept { P.reading port.new ≡ P.reading port.old }
     ensures sound { IsSound P.File.tells P.File.pages store.new }
@@ -233,11 +239,12 @@ fn add_chunk<P: PageSink>(
     requires counted { store.old.length ≡ length history.old.items }
     requires room { length history.old.items < most_entries → vec_len history.old < vec_capacity history.old }
     requires empty { P.written port.old ≡ Some [] }
-    ensures settles { IfOk result (λ reply. (max : ℕ) → Settles statement.now max P.File.tells (database_of store.old) history.old.items reply (database_of store.new) history.new.items) }
+    ensures settles { IfOk result (λ reply. (max : ℕ) → Settles statement.now max (Unit {0}) (database_of store.old) history.old.items reply (database_of store.new) history.new.items) }
     ensures unfailed { IfOk result (λ reply. IsUnfailed reply) }
     ensures calm { OnOk result (P.write_faults port.new ≡ P.write_faults port.old) }
     ensures cause { IfErr result (λ failure. IsUnbuilt failure (P.write_faults port.old) (P.write_faults port.new)) }
     ensures keeps { OnErr result (Keeps (database_of store.old) (database_of store.new) history.old.items history.new.items) }
+    ensures files { (files : List P.File) → AreFiles store.old files → HasFiles store.new files }
     ensures empty { P.written port.new ≡ Some [] }
     ensures kept { P.reading port.new ≡ P.reading port.old }
     ensures sound { IsSound P.File.tells P.File.pages store.new }
@@ -278,12 +285,12 @@ fn select<P: Port>(
 ) -> Result<Reply, Failure>
     requires is { parsed statement.now.text ≡ Ok (ast.Select tree.now) }
     requires sound { IsSound P.File.tells P.File.pages store.now }
-    requires idle { IsIdle (port_seen P.reading P.write_faults P.written access.old.port) }
-    ensures settles { IfOk result (λ reply. (max : ℕ) (history : List Entry) → length history ≡ store.now.length → Settles statement.now max P.File.tells (database_of store.now) history reply (database_of store.now) history) }
+    requires idle { IsIdle (port_seen P.PageSink access.old.port) }
     ensures unfailed { IfOk result (λ reply. IsUnfailed reply) }
+    ensures reads { ReadsTables P.File.tells store.now (port_seen P.PageSink access.old.port) (port_seen P.PageSink access.new.port) result }
+    ensures settles { IfOk result (λ reply. (max : ℕ) (history : List Entry) → length history ≡ store.now.length → Settles statement.now max (DatabaseIsKnown P.File.tells (database_of store.now) (P.reading access.new.port).landings) (database_of store.now) history reply (database_of store.now) history) }
     ensures may { IfErr result (λ cause. may_fail (tree_of statement.now.text) cause ≡ true) }
-    ensures cause { IfErr result (λ cause. FailedBy P.File.tells (database_of store.now) (port_seen P.reading P.write_faults P.written access.old.port) (port_seen P.reading P.write_faults P.written access.new.port) cause) }
-    ensures goes_on { GoesOn (port_seen P.reading P.write_faults P.written access.old.port) (port_seen P.reading P.write_faults P.written access.new.port) }
+    ensures goes_on { GoesOn (port_seen P.PageSink access.old.port) (port_seen P.PageSink access.new.port) }
 {
     let query = match bind_select(alloc, tree, store) {
         Ok(query) => query,

@@ -8,6 +8,7 @@ ghost use Rattle.hv_model.specs.declared.script.Statement.{Statement};
 ghost use Rattle.hv_script.specs.Script.{HasOneSession};
 ghost use Rattle.oodb.specs.Reads.{port_seen, fresh_port};
 ghost use Rattle.oodb.specs.Causes.{CausedSoFar};
+ghost use Rattle.oodb.specs.Known.{Known};
 
 use crate::access::PageAccess;
 use crate::answer::answer;
@@ -61,13 +62,13 @@ pub fn answer_all<P: Port>(
     requires one { IsOneSession script.now phase.now }
     requires short { (k : ℕ) (x : Statement) → slice_get phase.now k ≡ Some x → length (line_list x.lines) ≤ 1000000 }
     requires texts { (k : ℕ) (x : Statement) → slice_get phase.now k ≡ Some x → length x.text ≤ 67108864 }
-    requires fresh { port_seen P.reading P.write_faults P.written access.old.port ≡ fresh_port P.File }
+    requires fresh { port_seen P.PageSink access.old.port ≡ fresh_port P.File }
     requires no_entry { outcome.history.items ≡ [] }
     requires no_reply { outcome.replies.items ≡ [] }
     requires entries { min (length phase.now) most_entries ≤ vec_capacity outcome.history }
     requires replies { length phase.now ≤ vec_capacity outcome.replies }
-    ensures legal { (max : ℕ) → Legal script.now max P.File.tells result.history.items (result.replies.items ∷ []) }
-    ensures causes { CausedSoFar P.File.tells script.now result.history.items result.replies.items (port_seen P.reading P.write_faults P.written access.new.port) }
+    ensures legal { (max : ℕ) → Legal script.now max (Known P.File.tells script.now result.history.items (P.reading access.new.port).landings) result.history.items (result.replies.items ∷ []) }
+    ensures causes { CausedSoFar P.File.tells script.now result.history.items result.replies.items (port_seen P.PageSink access.new.port) }
 {
     let mut store = Store::new(alloc);
     let Outcome {

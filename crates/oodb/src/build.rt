@@ -4,7 +4,8 @@ ghost use Rattle.std.specs.List.{list_all};
 ghost use Rattle.hv_row.specs.declared.value.Value.{Value};
 ghost use Rattle.hv_model.specs.Script.{line_list};
 ghost use Rattle.hv_model.specs.Import.{is_plain_byte, rows_of, rows_of_lines};
-ghost use Rattle.hv_chunk.specs.Building.{IsBuilt, IsBuildFault};
+ghost use Rattle.hv_view.specs.View.{IsBuilt};
+ghost use Rattle.hv_chunk.specs.Building.{IsBuildFault};
 ghost use Rattle.oodb.specs.Imported.{IsUnbuilt, IsSpelled};
 
 use crate::import::{next_line, row_of};

@@ -1,21 +1,12 @@
 // The lines that a run writes in place of a report.
-ghost use Rattle.std.specs.Prelude.{◌≡◌, Ok};
-ghost use Rattle.hv_io.specs.Bytes.{Seen, seen};
-ghost use Rattle.oodb.specs.Lines.{fault_name, word_line, fault_line, Handed, HandsMore};
+ghost use Rattle.std.specs.Prelude.{◌≡◌};
+ghost use Rattle.hv_io.specs.Seen.{seen};
+ghost use Rattle.hv_io.specs.Printing.{Prints};
+ghost use Rattle.oodb.specs.Lines.{fault_name, word_line, fault_line, Handed};
 
-use hv_io::{PutAll, Sink, put};
+use hv_io::{Printer, PutAll, Sink};
 use hv_model::{FaultName, ScriptFault};
 use itoa::Buffer;
-
-// Hands over more bytes, unless a part before them was cut off.
-fn put_more<K: Sink>(out: &mut K, so_far: Result<(), PutAll>, bytes: &[u8]) -> Result<(), PutAll>
-    ensures { HandsMore bytes.now so_far (seen K.taken K.faults K.zeros out.old) result (seen K.taken K.faults K.zeros out.new) }
-{
-    match so_far {
-        Err(cause) => Err(cause),
-        Ok(()) => put(out, bytes),
-    }
-}
 
 fn fault_name(name: FaultName) -> &'static [u8]
     ensures { result.now ≡ fault_name name }
@@ -30,24 +21,40 @@ fn fault_name(name: FaultName) -> &'static [u8]
     }
 }
 
-/// Writes which word is at fault, counted from 1. Takes no memory.
-pub fn put_word_line<K: Sink>(out: &mut K, word: u32) -> Result<(), PutAll>
-    ensures { Handed result (seen K.taken K.faults K.zeros out.old) (word_line word) (seen K.taken K.faults K.zeros out.new) }
+fn print_word<K: Sink>(printer: &mut Printer, out: &mut K, word: u32)
+    ensures { Prints (word_line word) (seen K.Sink out.old) printer.old (seen K.Sink out.new) printer.new }
 {
     let mut digits = Buffer::new();
-    let begun = put(out, b"fault word ");
-    let counted = put_more(out, begun, digits.format(word).as_bytes());
-    put_more(out, counted, b"\n")
+    printer.put(out, b"fault word ");
+    printer.put(out, digits.format(word).as_bytes());
+    printer.put(out, b"\n");
+}
+
+fn print_fault<K: Sink>(printer: &mut Printer, out: &mut K, fault: ScriptFault)
+    ensures { Prints (fault_line fault.name fault.byte) (seen K.Sink out.old) printer.old (seen K.Sink out.new) printer.new }
+{
+    let mut digits = Buffer::new();
+    printer.put(out, b"fault ");
+    printer.put(out, fault_name(fault.name));
+    printer.put(out, b" ");
+    printer.put(out, digits.format(fault.byte).as_bytes());
+    printer.put(out, b"\n");
+}
+
+/// Writes which word is at fault, counted from 1. Takes no memory.
+pub fn put_word_line<K: Sink>(out: &mut K, word: u32) -> Result<(), PutAll>
+    ensures { Handed result (seen K.Sink out.old) (word_line word) (seen K.Sink out.new) }
+{
+    let mut printer = Printer::new();
+    print_word(&mut printer, out, word);
+    printer.finish(out)
 }
 
 /// Writes which fault the script has, and at which byte. Takes no memory.
 pub fn put_fault_line<K: Sink>(out: &mut K, fault: ScriptFault) -> Result<(), PutAll>
-    ensures { Handed result (seen K.taken K.faults K.zeros out.old) (fault_line fault.name fault.byte) (seen K.taken K.faults K.zeros out.new) }
+    ensures { Handed result (seen K.Sink out.old) (fault_line fault.name fault.byte) (seen K.Sink out.new) }
 {
-    let mut digits = Buffer::new();
-    let begun = put(out, b"fault ");
-    let named = put_more(out, begun, fault_name(fault.name));
-    let parted = put_more(out, named, b" ");
-    let placed = put_more(out, parted, digits.format(fault.byte).as_bytes());
-    put_more(out, placed, b"\n")
+    let mut printer = Printer::new();
+    print_fault(&mut printer, out, fault);
+    printer.finish(out)
 }

@@ -1,6 +1,10 @@
 //! `oodb`: reads a script of statements and writes a report of their replies and of one history of the catalogue's commands.
-//! The contract of `run` says what the report is; `main` hands it the standard input and output, and page files in the folder `oodb.data`.
+//! The contract of `run` says what the report is, from the bytes that its source has to those that its sink took. `main` hands it the standard
+//! input and output, which tell their bytes where std does, and page files in the folder `oodb.data`, which don't tell what they hold.
 #![tactic(auto)]
+
+ghost use Rattle.std.specs.Prelude.{◌≡◌, map, drop, string_bytes, IfOk};
+ghost use Rattle.std.specs.Vec.Iter.{into_iter_items};
 
 mod access;
 mod answer;
@@ -23,7 +27,7 @@ mod tests;
 use hv_dev::FileDevice;
 use hv_io::{StdSink, StdSource};
 use hv_row::Bytes;
-pub use law::legal_is_met_and_missed;
+pub use law::{content_is_met_and_missed, legal_is_met_and_missed, one_report_one_history};
 pub use memory::{InMemory, run_in_memory};
 pub use run::run;
 pub use status::Status;
@@ -61,14 +65,24 @@ fn device_in(rt: HostRuntime, folder: &[u8]) -> Result<FileDevice<HostRuntime>, 
 }
 
 // The words behind the program's name. Arguments that aren't all text are taken as none, so that the first word is at fault.
-fn words_of(alloc: Global, args: io::Result<Args>) -> Result<Vec<Bytes>, AllocError> {
+fn words_of(alloc: Global, args: io::Result<Args>) -> Result<Vec<Bytes>, AllocError>
+    ensures { IfOk result (λ words. IfOk args (λ all. words.items ≡ map string_bytes (drop 1 (into_iter_items all)))) }
+{
+    match args {
+        Ok(args) => words_behind(alloc, args),
+        Err(error) if error.kind() == io::ErrorKind::OutOfMemory => Err(AllocError),
+        Err(_) => Ok(Vec::new(alloc)),
+    }
+}
+
+// The arguments behind the first, in their order.
+fn words_behind(alloc: Global, args: Args) -> Result<Vec<Bytes>, AllocError>
+    ensures { IfOk result (λ words. words.items ≡ map string_bytes (drop 1 (into_iter_items args))) }
+{
     let mut words = Vec::new(alloc);
-    let args = match args {
-        Ok(args) => args,
-        Err(error) if error.kind() == io::ErrorKind::OutOfMemory => return Err(AllocError),
-        Err(_) => return Ok(words),
-    };
-    for arg in args.skip(1) {
+    let mut rest = args;
+    let _ = rest.next();
+    for arg in rest {
         words.push(Bytes::from_slice(alloc, arg.as_bytes())?)?;
     }
     Ok(words)

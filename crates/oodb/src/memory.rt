@@ -1,10 +1,9 @@
 // A run over memory.
 ghost use Rattle.std.specs.Prelude.{◌≡◌, ◌≤◌, false, drop, Some, IsOk, IfOk, IfErr, vec_len};
-ghost use Rattle.hv_model.specs.Words.{options};
+ghost use Rattle.hv_script.specs.Words.{options};
 ghost use Rattle.oodb.specs.Lines.{word_line};
 ghost use Rattle.oodb.specs.Outcome.{IsReported, max_of_words};
-ghost use Rattle.oodb.specs.Statuses.{IsFaultLine};
-ghost use Rattle.oodb.specs.InMemory.{Reports, IsEnd, TellsItsFault, ReportsItsScript};
+ghost use Rattle.oodb.specs.InMemory.{Reports, IsEnd, TellsItsFault, IsLineOf, ReportsItsScript};
 ghost use Rattle.oodb.specs.declared.status.Status.TheVariants as status;
 
 use crate::run::run;
@@ -64,7 +63,7 @@ pub fn run_in_memory(
     ensures words { IfOk result (λ done. IfErr (options false words.now) (λ i. (done.status ≡ status.Words) × (done.report.items ≡ word_line i))) }
     ensures words_alone { IfOk result (λ done. IsOk (options false words.now) → ¬ (done.status ≡ status.Words)) }
     ensures fault { IfOk result (λ done. IsOk (options false words.now) → TellsItsFault script.items done.status done.report.items) }
-    ensures fault_alone { IfOk result (λ done. done.status ≡ status.Script → IsOk (options false words.now) × IsFaultLine script.items done.report.items) }
+    ensures fault_alone { IfOk result (λ done. done.status ≡ status.Script → IsOk (options false words.now) × IsLineOf script.items done.report.items) }
     ensures complete { IfOk result (λ done. IsOk (options false words.now) → ReportsItsScript script.items done.status) }
 {
     let mut source = WholeSource::new(script);

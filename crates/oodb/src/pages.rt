@@ -1,13 +1,13 @@
 // The rows of a chunk, read page by page.
-ghost use Rattle.std.specs.Prelude.{◌≡◌, ℕ, [], ◌<◌, ◌++◌, List, length, get_or, true, OnOk, IfErr};
+ghost use Rattle.std.specs.Prelude.{◌≡◌, [], ◌<◌, ◌++◌, length, get_or, OnOk};
 ghost use Rattle.std.specs.List.{AllByRecursion};
 ghost use Rattle.sha2.specs.Sha256.{sha256};
 ghost use Rattle.hv_page.specs.Heap.{IsHeapEntry};
-ghost use Rattle.hv_dev.specs.Reading.{IsPageOf};
-ghost use Rattle.hv_chunk.specs.Building.{IsBuilt};
+ghost use Rattle.hv_view.specs.View.{IsBuilt};
+ghost use Rattle.hv_view.specs.Known.{ChunkIsKnown};
 ghost use Rattle.oodb.specs.Reads.{ReadsOn, BroughtBytes, first_bytes};
-ghost use Rattle.oodb.specs.Damage.{IsUnread};
-ghost use Rattle.oodb.specs.RowsRead.{AddsRows, HasEntries};
+ghost use Rattle.oodb.specs.Damage.{ReadsChunk};
+ghost use Rattle.oodb.specs.RowsRead.{AddsRows, AddsPage, IsAsWritten};
 
 use crate::access::PageAccess;
 use hv_chunk::Chunk;
@@ -31,8 +31,8 @@ pub fn read_chunk<P: Port>(
     requires built { IsBuilt P.File.tells P.File.pages chunk.now.schema chunk.now.rows chunk.now }
     requires room { 0 < (P.reading access.old.port).room }
     requires idle { (P.reading access.old.port).in_flight ≡ [] }
-    ensures rows { OnOk result (P.File.tells ≡ true → out.new ≡ out.old ++ chunk.now.rows) }
-    ensures cause { IfErr result (λ cause. IsUnread P.File.tells number chunk.now (P.reading access.old.port) (P.reading access.new.port) cause) }
+    ensures rows { OnOk result (ChunkIsKnown P.File.tells chunk.now (P.reading access.new.port).landings → out.new ≡ out.old ++ chunk.now.rows) }
+    ensures reads_chunk { ReadsChunk P.File.tells number chunk.now (P.reading access.old.port) (P.reading access.new.port) result }
     ensures reads { ReadsOn (P.reading access.old.port) (P.reading access.new.port) }
     ensures faults { P.write_faults access.new.port ≡ P.write_faults access.old.port }
     ensures kept { P.written access.new.port ≡ P.written access.old.port }
@@ -56,8 +56,8 @@ fn read_rows<P: Port>(
     requires within { page < chunk.now.heap_pages }
     requires room { 0 < (P.reading access.old.port).room }
     requires idle { (P.reading access.old.port).in_flight ≡ [] }
-    ensures rows { OnOk result (P.File.tells ≡ true → (entries : List (List ℕ)) → HasEntries chunk.now.schema (P.File.pages chunk.now.file) page entries → AddsRows chunk.now.schema entries out.old out.new) }
-    ensures cause { IfErr result (λ cause. IsUnread P.File.tells number chunk.now (P.reading access.old.port) (P.reading access.new.port) cause) }
+    ensures rows { OnOk result (ChunkIsKnown P.File.tells chunk.now (P.reading access.new.port).landings → AddsPage chunk.now page out.old out.new) }
+    ensures reads_chunk { ReadsChunk P.File.tells number chunk.now (P.reading access.old.port) (P.reading access.new.port) result }
     ensures reads { ReadsOn (P.reading access.old.port) (P.reading access.new.port) }
     ensures faults { P.write_faults access.new.port ≡ P.write_faults access.old.port }
     ensures kept { P.written access.new.port ≡ P.written access.old.port }
@@ -89,9 +89,9 @@ fn read_page<P: Port>(
     requires room { 0 < (P.reading access.old.port).room }
     requires idle { (P.reading access.old.port).in_flight ≡ [] }
     ensures digest { OnOk result (sha256 (first_bytes access.new.frames.items) ≡ get_or chunk.now.digests page []) }
-    ensures page { OnOk result (P.File.tells ≡ true → IsPageOf (P.File.pages chunk.now.file) page (first_bytes access.new.frames.items)) }
-    ensures brought { OnOk result (BroughtBytes (P.reading access.old.port).landings (P.reading access.new.port).landings page (first_bytes access.new.frames.items)) }
-    ensures cause { IfErr result (λ cause. IsUnread P.File.tells number chunk.now (P.reading access.old.port) (P.reading access.new.port) cause) }
+    ensures page { OnOk result (ChunkIsKnown P.File.tells chunk.now (P.reading access.new.port).landings → IsAsWritten chunk.now page (first_bytes access.new.frames.items)) }
+    ensures brought { OnOk result (BroughtBytes (P.reading access.old.port).landings (P.reading access.new.port).landings chunk.now.file page (first_bytes access.new.frames.items)) }
+    ensures reads_chunk { ReadsChunk P.File.tells number chunk.now (P.reading access.old.port) (P.reading access.new.port) result }
     ensures reads { ReadsOn (P.reading access.old.port) (P.reading access.new.port) }
     ensures faults { P.write_faults access.new.port ≡ P.write_faults access.old.port }
     ensures kept { P.written access.new.port ≡ P.written access.old.port }

@@ -1,9 +1,6 @@
 // The report on an outcome.
-ghost use Rattle.std.specs.Prelude.{◌≡◌, ◌<◌, [], ◌∷◌, codes, vec_len, vec_capacity};
-ghost use Rattle.hv_model.specs.declared.script.Script.{Script};
-ghost use Rattle.hv_model.specs.Report.{report_text};
-ghost use Rattle.hv_report.specs.Text.{text_of};
-ghost use Rattle.hv_script.specs.Script.{HasOneSession};
+ghost use Rattle.std.specs.Prelude.{◌≡◌, ◌<◌, [], codes, vec_len, vec_capacity};
+ghost use Rattle.oodb.specs.Told.{report_of};
 
 use crate::answers::Outcome;
 use hv_report::{Report, SessionReport};
@@ -31,7 +28,7 @@ impl Blank {
 
     /// The report on an outcome of a script of that session.
     pub fn filled(self, outcome: Outcome) -> Report
-        ensures { (script : Script) → HasOneSession script → text_of result ≡ report_text script outcome.history.items (outcome.replies.items ∷ []) }
+        ensures { result ≡ report_of outcome.history.items outcome.replies.items }
     {
         let Blank { name, mut sessions } = self;
         let Outcome { history, replies } = outcome;

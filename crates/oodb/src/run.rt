@@ -1,20 +1,20 @@
 // The top call.
 ghost use Rattle.std.specs.List.{list_any};
-ghost use Rattle.std.specs.Prelude.{◌≡◌, false, ◌⊎◌, ℕ, List, [], ◌∷◌, Ok, Err, IsOk, IfSome, IfOk, OnOk, OnErr, IfErr};
-ghost use Rattle.hv_io.specs.Bytes.{Seen, seen};
-ghost use Rattle.hv_io.specs.Counts.{Rose};
-ghost use Rattle.hv_io.specs.Putting.{TookAll, Stopped};
-ghost use Rattle.hv_model.specs.Words.{options, max_of};
-ghost use Rattle.hv_model.specs.Script.{IsScript, IsFault};
-ghost use Rattle.oodb.specs.Lines.{Handed, word_line, fault_line};
-ghost use Rattle.oodb.specs.Outcome.{told, Answers, Reads, HandsOver, IsReported, TookReport, TookWordLine, TookFaultLine, SinkRose, max_of_words, status_of, is_failed, ReportsOn};
+ghost use Rattle.std.specs.Prelude.{◌≡◌, false, ◌⊎◌, ℕ, List, [], ◌∷◌, Ok, IsOk, IfSome, IfOk, OnOk, OnErr, IfErr};
+ghost use Rattle.hv_io.specs.Bytes.{Seen};
+ghost use Rattle.hv_io.specs.Seen.{seen};
 ghost use Rattle.hv_dev.specs.Reading.{went};
+ghost use Rattle.hv_script.specs.Words.{options};
+ghost use Rattle.hv_model.specs.Report.{report_text};
+ghost use Rattle.hv_model.specs.declared.script.Script.{Script};
+ghost use Rattle.hv_report.specs.Law.{InRange};
+ghost use Rattle.hv_script.specs.Script.{HasOneSession};
+ghost use Rattle.oodb.specs.Lines.{Handed};
 ghost use Rattle.oodb.specs.Reads.{port_seen, fresh_port};
 ghost use Rattle.oodb.specs.Causes.{DeviceKept, IsCalm};
-ghost use Rattle.oodb.specs.Statuses.{TellsFault, CutShort, SinkKept, IsNoScript, SinkCalm, IsAnswered};
-ghost use Rattle.hv_model.specs.declared.script.Script.{Script};
-ghost use Rattle.hv_model.specs.Report.{report_text};
-ghost use Rattle.hv_script.specs.Script.{HasOneSession};
+ghost use Rattle.oodb.specs.Told.{report_of};
+ghost use Rattle.oodb.specs.Outcome.{source_seen, around, Answers, TookReport, TookWordLine, TookFaultLine, SourceFailed, CutShort, NoMemory, ReportsOn, HandsOver, IsReported, status_of, is_failed};
+ghost use Rattle.oodb.specs.Statuses.{TellsFault, IsNoScript, SinkRose, SinkKept, SinkCalm, IsAnswered};
 ghost use Rattle.oodb.specs.declared.status.Status.TheVariants as status;
 
 use crate::access::PageAccess;
@@ -25,10 +25,10 @@ use crate::status::Status;
 use hv_dev::{Device, Order};
 use hv_frames::make;
 use hv_io::{PutAll, Sink, Source};
-use hv_model::{Options, Reply, Script};
+use hv_model::{Reply, Script};
 use hv_report::write_report;
 use hv_row::Bytes;
-use hv_script::{ReadScriptFault, read_script, read_words};
+use hv_script::{Options, ReadScriptFault, read_script, read_words};
 use std::alloc::{AllocError, Global};
 
 /// Reads the words and the script, answers the script's statements over files of the device, and writes the report.
@@ -40,21 +40,21 @@ pub fn run<S: Source, K: Sink, D: Device>(
     out: &mut K,
     dev: &mut D,
 ) -> Status
-    ensures outcome { Answers D.Port.File.tells (options false words.now) result (told S.left S.faults script.old) (told S.left S.faults script.new) (seen K.taken K.faults K.zeros out.old) (seen K.taken K.faults K.zeros out.new) (D.returned dev.old) (D.returned dev.new) }
-    ensures report { IsReported result → IfSome (S.left script.old) (λ bytes. TookReport D.Port.File.tells bytes (max_of_words (options false words.now)) result (seen K.taken K.faults K.zeros out.old) (seen K.taken K.faults K.zeros out.new) (D.returned dev.old) (D.returned dev.new)) }
-    ensures words_line { result ≡ status.Words → TookWordLine (options false words.now) (seen K.taken K.faults K.zeros out.old) (seen K.taken K.faults K.zeros out.new) }
-    ensures words { IfErr (options false words.now) (λ i. (told S.left S.faults script.new ≡ told S.left S.faults script.old) × ((result ≡ status.Words) ⊎ (result ≡ status.SinkFault))) }
-    ensures script_line { result ≡ status.Script → IfSome (S.left script.old) (λ bytes. TookFaultLine bytes (seen K.taken K.faults K.zeros out.old) (seen K.taken K.faults K.zeros out.new)) }
-    ensures script { IsOk (options false words.now) → IfSome (S.left script.old) (λ bytes. TellsFault bytes result (told S.left S.faults script.old) (told S.left S.faults script.new) (seen K.taken K.faults K.zeros out.old) (seen K.taken K.faults K.zeros out.new) (D.returned dev.old) (D.returned dev.new)) }
+    ensures outcome { Answers D.Port.File.tells (options false words.now) result (around S.Source K.Sink D.Device script.old out.old dev.old) (around S.Source K.Sink D.Device script.new out.new dev.new) }
+    ensures report { IsReported result → TookReport D.Port.File.tells (options false words.now) result (around S.Source K.Sink D.Device script.old out.old dev.old) (around S.Source K.Sink D.Device script.new out.new dev.new) }
+    ensures words_line { result ≡ status.Words → TookWordLine (options false words.now) (around S.Source K.Sink D.Device script.old out.old dev.old) (around S.Source K.Sink D.Device script.new out.new dev.new) }
+    ensures words { IfErr (options false words.now) (λ i. (source_seen S.Source script.new ≡ source_seen S.Source script.old) × ((result ≡ status.Words) ⊎ (result ≡ status.SinkFault))) }
+    ensures script_line { result ≡ status.Script → TookFaultLine (options false words.now) (around S.Source K.Sink D.Device script.old out.old dev.old) (around S.Source K.Sink D.Device script.new out.new dev.new) }
+    ensures script { IsOk (options false words.now) → TellsFault (options false words.now) result (around S.Source K.Sink D.Device script.old out.old dev.old) (around S.Source K.Sink D.Device script.new out.new dev.new) }
     ensures no_script { result ≡ status.Script → IfSome (S.left script.old) (λ bytes. IsNoScript bytes) }
-    ensures source { result ≡ status.SourceFault → Rose (S.faults script.old) (S.faults script.new) × (seen K.taken K.faults K.zeros out.new ≡ seen K.taken K.faults K.zeros out.old) }
+    ensures source { result ≡ status.SourceFault → SourceFailed (options false words.now) (around S.Source K.Sink D.Device script.old out.old dev.old) (around S.Source K.Sink D.Device script.new out.new dev.new) }
     ensures calm { ¬ (result ≡ status.SourceFault) → S.faults script.new ≡ S.faults script.old }
-    ensures sink { result ≡ status.SinkFault → SinkRose (seen K.taken K.faults K.zeros out.old) (seen K.taken K.faults K.zeros out.new) × IfSome (S.left script.old) (λ bytes. CutShort D.Port.File.tells (options false words.now) bytes (seen K.taken K.faults K.zeros out.old) (seen K.taken K.faults K.zeros out.new) (D.returned dev.old) (D.returned dev.new)) }
-    ensures sink_calm { ¬ (result ≡ status.SinkFault) → SinkKept (seen K.taken K.faults K.zeros out.old) (seen K.taken K.faults K.zeros out.new) }
-    ensures memory { result ≡ status.Memory → IsOk (options false words.now) × (seen K.taken K.faults K.zeros out.new ≡ seen K.taken K.faults K.zeros out.old) }
+    ensures sink { result ≡ status.SinkFault → SinkRose (seen K.Sink out.old) (seen K.Sink out.new) × CutShort D.Port.File.tells (options false words.now) (around S.Source K.Sink D.Device script.old out.old dev.old) (around S.Source K.Sink D.Device script.new out.new dev.new) }
+    ensures sink_calm { ¬ (result ≡ status.SinkFault) → SinkKept (seen K.Sink out.old) (seen K.Sink out.new) }
+    ensures memory { result ≡ status.Memory → NoMemory (options false words.now) (around S.Source K.Sink D.Device script.old out.old dev.old) (around S.Source K.Sink D.Device script.new out.new dev.new) }
     ensures device { ¬ (IsReported result) → ¬ (result ≡ status.SinkFault) → D.returned dev.new ≡ D.returned dev.old }
     ensures ports { DeviceKept (D.returned dev.old) (D.returned dev.new) }
-    ensures complete { IsOk (options false words.now) → IsCalm (S.faults script.old) (S.faults script.new) → SinkCalm (seen K.taken K.faults K.zeros out.old) (seen K.taken K.faults K.zeros out.new) → IfSome (S.left script.old) (λ bytes. IsAnswered bytes result) }
+    ensures complete { IsOk (options false words.now) → IsCalm (S.faults script.old) (S.faults script.new) → SinkCalm (seen K.Sink out.old) (seen K.Sink out.new) → IfSome (S.left script.old) (λ bytes. IsAnswered bytes result) }
 {
     run_words(alloc, words, script, out, dev)
 }
@@ -67,7 +67,7 @@ fn run_words<S: Source, K: Sink, D: Device>(
     out: &mut K,
     dev: &mut D,
 ) -> Status
-    ensures { Answers D.Port.File.tells (options false words.now) result (told S.left S.faults script.old) (told S.left S.faults script.new) (seen K.taken K.faults K.zeros out.old) (seen K.taken K.faults K.zeros out.new) (D.returned dev.old) (D.returned dev.new) }
+    ensures { Answers D.Port.File.tells (options false words.now) result (around S.Source K.Sink D.Device script.old out.old dev.old) (around S.Source K.Sink D.Device script.new out.new dev.new) }
 {
     match read_words(false, words) {
         Err(word) => handed(put_word_line(out, word), Status::Words),
@@ -83,7 +83,7 @@ fn run_script<S: Source, K: Sink, D: Device>(
     out: &mut K,
     dev: &mut D,
 ) -> Status
-    ensures { Reads D.Port.File.tells (max_of options) result (told S.left S.faults source.old) (told S.left S.faults source.new) (seen K.taken K.faults K.zeros out.old) (seen K.taken K.faults K.zeros out.new) (D.returned dev.old) (D.returned dev.new) }
+    ensures { Answers D.Port.File.tells (Ok options) result (around S.Source K.Sink D.Device source.old out.old dev.old) (around S.Source K.Sink D.Device source.new out.new dev.new) }
 {
     match read_script(alloc, source) {
         Ok(script) => report(alloc, &script, out, dev),
@@ -97,7 +97,7 @@ fn run_script<S: Source, K: Sink, D: Device>(
 // first statement.
 fn report<K: Sink, D: Device>(alloc: Global, script: &Script, out: &mut K, dev: &mut D) -> Status
     requires { HasOneSession script.now }
-    ensures { ReportsOn D.Port.File.tells script.now result (seen K.taken K.faults K.zeros out.old) (seen K.taken K.faults K.zeros out.new) (D.returned dev.old) (D.returned dev.new) }
+    ensures { ReportsOn D.Port.File.tells script.now result (seen K.Sink out.old) (seen K.Sink out.new) (D.returned dev.old) (D.returned dev.new) }
 {
     let phase = statements(script);
     let Ok(room) = Outcome::with_room(alloc, phase.len()) else {
@@ -116,7 +116,7 @@ fn report<K: Sink, D: Device>(alloc: Global, script: &Script, out: &mut K, dev: 
 
 // A port with room for one read, and the frame that it fills.
 fn open_access<D: Device>(alloc: Global, dev: &mut D) -> Result<PageAccess<D::Port>, AllocError>
-    ensures fresh { IfOk result (λ access. port_seen D.Port.reading D.Port.write_faults D.Port.written access.port ≡ fresh_port D.Port.File) }
+    ensures fresh { IfOk result (λ access. port_seen D.Port.PageSink access.port ≡ fresh_port D.Port.File) }
     ensures out { OnOk result (D.returned dev.new ≡ went (D.returned dev.old)) }
     ensures kept { OnErr result (D.returned dev.new ≡ D.returned dev.old) }
 {
@@ -132,7 +132,8 @@ fn open_access<D: Device>(alloc: Global, dev: &mut D) -> Result<PageAccess<D::Po
 
 // Writes the report on an outcome of a script of one session.
 fn hand_over<K: Sink>(blank: Blank, outcome: Outcome, out: &mut K) -> Status
-    ensures { (script : Script) → HasOneSession script → HandsOver (report_text script outcome.history.items (outcome.replies.items ∷ [])) (status_of outcome.replies.items) result (seen K.taken K.faults K.zeros out.old) (seen K.taken K.faults K.zeros out.new) }
+    ensures over { (script : Script) → HasOneSession script → HandsOver (report_text script outcome.history.items (outcome.replies.items ∷ [])) (status_of outcome.replies.items) result (seen K.Sink out.old) (seen K.Sink out.new) }
+    ensures in_range { InRange (report_of outcome.history.items outcome.replies.items) }
 {
     let full = full_status(outcome.replies.as_slice());
     let report = blank.filled(outcome);

@@ -2,8 +2,8 @@
 ghost use Rattle.std.specs.Prelude.{◌≡◌, ℕ, ◌+◌, ◌<◌, [], ◌∷◌, ◌++◌, List, length, slice_get, vec_len, vec_capacity, Some, None, Ok, OnOk, OnErr, IfOk, IfSome, IsSomeAnd};
 ghost use Rattle.hv_model.specs.declared.catalogue.Command.TheVariants.{Create, Import};
 ghost use Rattle.hv_model.specs.Database.{empty_database, table_number, create_refusal, import_refusal, step};
-ghost use Rattle.hv_chunk.specs.Building.{IsBuilt};
-ghost use Rattle.oodb.specs.Stored.{table_of, database_of, IsSound};
+ghost use Rattle.hv_view.specs.View.{IsBuilt};
+ghost use Rattle.oodb.specs.Stored.{table_of, database_of, IsSound, AreFiles};
 
 use hv_chunk::Chunk;
 use hv_dev::PageFile;
@@ -49,6 +49,7 @@ impl<F: PageFile> Store<F> {
     pub fn new(alloc: Global) -> Store<F>
         ensures empty { database_of result ≡ empty_database }
         ensures sound { IsSound F.tells F.pages result }
+        ensures files { AreFiles result [] }
     {
         Store {
             tables: Vec::new(alloc),
@@ -94,6 +95,7 @@ impl<F: PageFile> Store<F> {
         ensures length { OnOk result (self.new.length ≡ self.old.length + 1) }
         ensures err { OnErr result (database_of self.new ≡ database_of self.old) }
         ensures sound { IsSound F.tells F.pages self.new }
+        ensures files { (files : List F) → AreFiles self.old files → AreFiles self.new files }
     {
         self.tables.push(StoredTable {
             name,
@@ -125,6 +127,7 @@ impl<F: PageFile> Store<F> {
         ensures room { OnOk result (IsSomeAnd (slice_get self.new.tables.items at) (λ t. vec_len t.chunks < vec_capacity t.chunks)) }
         ensures same { database_of self.new ≡ database_of self.old }
         ensures sound { IsSound F.tells F.pages self.new }
+        ensures files { (files : List F) → AreFiles self.old files → AreFiles self.new files }
     {
         self.tables[at].chunks.reserve(1)
     }
@@ -139,6 +142,7 @@ impl<F: PageFile> Store<F> {
         ensures made { self.new.made ≡ self.old.made + 1 }
         ensures length { self.new.length ≡ self.old.length + 1 }
         ensures sound { IsSound F.tells F.pages self.new }
+        ensures files { (files : List F) → AreFiles self.old files → AreFiles self.new (files ++ chunk.file ∷ []) }
     {
         self.made += 1;
         self.tables[at].chunks.push_reserved(StoredChunk {

@@ -1,11 +1,11 @@
 // The rows of the tables of a query.
-ghost use Rattle.std.specs.Prelude.{◌≡◌, ◌<◌, ◌==◌, length, true, map, position, IfOk, IfErr};
+ghost use Rattle.std.specs.Prelude.{◌≡◌, ◌<◌, ◌==◌, length, map, position, IfOk};
 ghost use Rattle.std.specs.List.{All};
 ghost use Rattle.hv_model.specs.Query.{rows_of_number};
-ghost use Rattle.hv_model.specs.declared.reply.Failure.TheVariants.{Write};
 ghost use Rattle.oodb.specs.Stored.{database_of, IsSound};
+ghost use Rattle.oodb.specs.Known.{DatabaseIsKnown};
 ghost use Rattle.oodb.specs.Reads.{port_seen, IsIdle, GoesOn};
-ghost use Rattle.oodb.specs.Damage.{FailedBy};
+ghost use Rattle.oodb.specs.Answer.{ReadsTables};
 
 use crate::access::PageAccess;
 use crate::pages::read_chunk;
@@ -24,11 +24,10 @@ pub fn read_tables<P: Port>(
 ) -> Result<PlainTables, Failure>
     requires within { All (λ at. at < length store.now.tables.items) places.now }
     requires sound { IsSound P.File.tells P.File.pages store.now }
-    requires idle { IsIdle (port_seen P.reading P.write_faults P.written access.old.port) }
-    ensures rows { IfOk result (λ tables. P.File.tells ≡ true → tables ≡ map (rows_of_number (database_of store.now)) places.now) }
-    ensures cause { IfErr result (λ cause. FailedBy P.File.tells (database_of store.now) (port_seen P.reading P.write_faults P.written access.old.port) (port_seen P.reading P.write_faults P.written access.new.port) cause) }
-    ensures reads { IfErr result (λ cause. ¬ (cause ≡ Write)) }
-    ensures goes_on { GoesOn (port_seen P.reading P.write_faults P.written access.old.port) (port_seen P.reading P.write_faults P.written access.new.port) }
+    requires idle { IsIdle (port_seen P.PageSink access.old.port) }
+    ensures rows { IfOk result (λ tables. DatabaseIsKnown P.File.tells (database_of store.now) (P.reading access.new.port).landings → tables ≡ map (rows_of_number (database_of store.now)) places.now) }
+    ensures reads { ReadsTables P.File.tells store.now (port_seen P.PageSink access.old.port) (port_seen P.PageSink access.new.port) result }
+    ensures goes_on { GoesOn (port_seen P.PageSink access.old.port) (port_seen P.PageSink access.new.port) }
 {
     let mut tables = PlainTables::with_capacity(alloc, places.len())?;
     for at in places {
@@ -51,11 +50,10 @@ fn rows_of_place<P: Port>(
     requires within { at < length store.now.tables.items }
     requires paired { length tables.now ≡ length earlier.now }
     requires sound { IsSound P.File.tells P.File.pages store.now }
-    requires idle { IsIdle (port_seen P.reading P.write_faults P.written access.old.port) }
-    ensures rows { IfOk result (λ rows. P.File.tells ≡ true → tables.now ≡ map (rows_of_number (database_of store.now)) earlier.now → rows ≡ rows_of_number (database_of store.now) at) }
-    ensures cause { IfErr result (λ cause. FailedBy P.File.tells (database_of store.now) (port_seen P.reading P.write_faults P.written access.old.port) (port_seen P.reading P.write_faults P.written access.new.port) cause) }
-    ensures reads { IfErr result (λ cause. ¬ (cause ≡ Write)) }
-    ensures goes_on { GoesOn (port_seen P.reading P.write_faults P.written access.old.port) (port_seen P.reading P.write_faults P.written access.new.port) }
+    requires idle { IsIdle (port_seen P.PageSink access.old.port) }
+    ensures rows { IfOk result (λ rows. DatabaseIsKnown P.File.tells (database_of store.now) (P.reading access.new.port).landings → tables.now ≡ map (rows_of_number (database_of store.now)) earlier.now → rows ≡ rows_of_number (database_of store.now) at) }
+    ensures reads { ReadsTables P.File.tells store.now (port_seen P.PageSink access.old.port) (port_seen P.PageSink access.new.port) result }
+    ensures goes_on { GoesOn (port_seen P.PageSink access.old.port) (port_seen P.PageSink access.new.port) }
 {
     match place_of(earlier, at) {
         Some(place) => Ok(tables.as_slice()[place].copy(alloc)?),
@@ -79,11 +77,10 @@ fn read_table<P: Port>(
 ) -> Result<Rows, Failure>
     requires within { at < length store.now.tables.items }
     requires sound { IsSound P.File.tells P.File.pages store.now }
-    requires idle { IsIdle (port_seen P.reading P.write_faults P.written access.old.port) }
-    ensures rows { IfOk result (λ rows. P.File.tells ≡ true → rows ≡ rows_of_number (database_of store.now) at) }
-    ensures cause { IfErr result (λ cause. FailedBy P.File.tells (database_of store.now) (port_seen P.reading P.write_faults P.written access.old.port) (port_seen P.reading P.write_faults P.written access.new.port) cause) }
-    ensures reads { IfErr result (λ cause. ¬ (cause ≡ Write)) }
-    ensures goes_on { GoesOn (port_seen P.reading P.write_faults P.written access.old.port) (port_seen P.reading P.write_faults P.written access.new.port) }
+    requires idle { IsIdle (port_seen P.PageSink access.old.port) }
+    ensures rows { IfOk result (λ rows. DatabaseIsKnown P.File.tells (database_of store.now) (P.reading access.new.port).landings → rows ≡ rows_of_number (database_of store.now) at) }
+    ensures reads { ReadsTables P.File.tells store.now (port_seen P.PageSink access.old.port) (port_seen P.PageSink access.new.port) result }
+    ensures goes_on { GoesOn (port_seen P.PageSink access.old.port) (port_seen P.PageSink access.new.port) }
 {
     let mut rows = Rows::new(alloc);
     for stored in store.tables[at].chunks.as_slice() {

@@ -1,6 +1,7 @@
 // A sealed file of the operating system, and the reads of it.
-ghost use Rattle.std.specs.Prelude.{◌≡◌, ◌++◌, ◌∷◌, [], true, false};
+ghost use Rattle.std.specs.Prelude.{◌≡◌, ◌++◌, ◌∷◌, [], true, false, OnOk};
 ghost use Rattle.hv_io.specs.Counts.{Rose};
+ghost use Rattle.hv_dev.specs.Files.{ReadPage};
 ghost use Rattle.hv_dev.specs.Reading.{landing_of};
 
 use crate::memory::{Held, Landed};
@@ -22,16 +23,25 @@ impl PageFile for StoredFile {
 }
 
 impl StoredFile {
-    pub fn new(path: String) -> StoredFile {
+    pub fn new(path: String) -> StoredFile
+        ensures { result ≡ record { path = path } }
+    {
         StoredFile { path }
     }
 
-    // Fills the bytes with those of the page of that number.
+    // Opens the file and reads the page of that number.
     fn read<R: Files>(&self, rt: &R, number: u32, bytes: &mut [u8]) -> io::Result<()> {
         let mut file = fs::open(rt, self.path.as_str())?;
-        file.seek(SeekFrom::Start(4096 * u64::from(number)))?;
-        file.read_exact(bytes)
+        read_page(&mut file, number, bytes)
     }
+}
+
+// Fills the bytes with those of the page of that number.
+fn read_page<F: Read + Seek>(file: &mut F, number: u32, bytes: &mut [u8]) -> io::Result<()>
+    ensures { OnOk result (ReadPage F.stream_position F.remaining file.old file.new number bytes.new) }
+{
+    file.seek(SeekFrom::Start(4096 * u64::from(number)))?;
+    file.read_exact(bytes)
 }
 
 impl Held<StoredFile> {

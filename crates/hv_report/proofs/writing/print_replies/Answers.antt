@@ -1,10 +1,16 @@
--- The one at the index is the next part.
+-- The one at the index is the next part, and its numbers are in range.
 use Rattle.std.proofs.Common.{ap, ◌+◌}
+use Rattle.std.proofs.lemmas.List.Elements.{All-more}
 use Rattle.hv_model.specs.Report.{replies_text}
+use Rattle.hv_report.specs.Law.{ReplyInRange}
 use Rattle.hv_report.proofs.PrintedParts.{item_next, printed_next}
 use Rattle.hv_report.proofs.writing.print_replies.Goals as goal
 
 pub loop-i-preserved : goal.loop-i-preserved
 loop-i-preserved g c =
     let next = item_next c.args.replies.now c.loop-i.i c.index-replies-i.result c.loop-i-test.true c.index-replies-i.is in
-    printed_next _ _ _ _ _ _ _ _ _ _ c.loop-i.invariant (ap (replies_text (c.loop-i.i + 1)) next) c.print_reply.ensures
+    let here = rw c.index-replies-i.is at c.print_reply.ensures.in_range in
+    record {
+      printed = printed_next _ _ _ _ _ _ _ _ _ _ c.loop-i.invariant.printed (ap (replies_text (c.loop-i.i + 1)) next) c.print_reply.ensures.prints;
+      in_range = All-more ReplyInRange c.args.replies.now c.loop-i.i c.index-replies-i.result c.loop-i-test.true c.loop-i.invariant.in_range here;
+    }

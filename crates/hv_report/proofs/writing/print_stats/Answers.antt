@@ -2,7 +2,8 @@
 use Rattle.std.proofs.Common.{append_assoc}
 use Rattle.hv_report.proofs.writing.print_stats.Goals as goal
 
-pub returns : goal.returns
-returns g c = λ start text h.
-    let parts = c.put-2.ensures.prints start _ (c.print_number.ensures start _ (c.put.ensures.prints start _ (c.print_numbered-2.ensures start _ (c.print_numbered.ensures start text h)))) in
+pub returns-clause-prints : goal.returns-clause-prints
+returns-clause-prints g c = λ start text h.
+    let reads = c.print_numbered-2.ensures.prints start _ (c.print_numbered.ensures.prints start text h) in
+    let parts = c.put-2.ensures.prints start _ (c.print_number.ensures start _ (c.put.ensures.prints start _ reads)) in
     simp append_assoc (simp append_assoc at parts)

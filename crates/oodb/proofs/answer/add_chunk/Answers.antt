@@ -6,7 +6,7 @@ use Rattle.hv_model.specs.Database.{table_number, step}
 use Rattle.hv_model.specs.declared.catalogue.Database.{Database}
 use Rattle.hv_model.specs.declared.catalogue.Command.TheVariants.{Import}
 use Rattle.hv_model.specs.declared.catalogue.Detail.TheVariants as detail
-use Rattle.hv_chunk.specs.Building.{IsBuilt}
+use Rattle.hv_view.specs.View.{IsBuilt}
 use Rattle.oodb.specs.Stored.{database_of}
 use Rattle.oodb.proofs.StoreChanges.{some_within, some_and, stands_at}
 use Rattle.oodb.proofs.Answering.{commits_import, same_schema, takes_chunk}
@@ -38,7 +38,7 @@ returns-clause-settles g c max =
     let steps : step before (Import name rows) ≡ Ok new =
     ap (λ (d : Database). step d (Import name rows)) (sym same) ∙ c.add_chunk.ensures.ok name (ap (λ (d : Database). table_number d name) same ∙ c.requires.imports.number) in
     let made : c.add_chunk.new.self.made ≡ before.made + 1 = c.add_chunk.ensures.made ∙ ap (λ (d : Database). d.made + 1) same in
-    let count : c.row_count-rows.result ≡ length rows = c.row_count-rows.ensures ∙ c.in_ok-chunk.ensures.built.counted in
+    let count : c.row_count-rows.result ≡ length rows = c.row_count-rows.ensures ∙ c.in_ok-chunk.ensures.built.recorded.is_chunk.counted in
     let told : detail.Import name c.add_chunk.new.self.made c.row_count-rows.result ≡ detail.Import name (before.made + 1) (length rows) = rw (made, count) refl in
     rw c.done.ensures (commits_import c.args.statement.now before new c.args.table c.args.at c.requires.imports rows c.args.history.now.items c.commit.new.history.items
     (record { session = c.in_ok-session.session; number = c.args.statement.now.number; what = detail.Import c.in_ok-name.name c.add_chunk.new.self.made c.row_count-rows.result })

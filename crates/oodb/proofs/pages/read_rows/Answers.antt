@@ -1,11 +1,20 @@
 use Rattle.oodb.specs.Reads.{first_bytes}
+use Rattle.oodb.proofs.ReadRows.{adds_seen}
 use Rattle.oodb.proofs.Landed.{no_form}
 use Rattle.oodb.proofs.pages.read_rows.Goals as goal
 
 -- what landed is no page of rows
-pub returns-in-Err-clause-cause : goal.returns-in-Err-clause-cause
-returns-in-Err-clause-cause g c =
+pub returns-in-Err-clause-reads_chunk : goal.returns-in-Err-clause-reads_chunk
+returns-in-Err-clause-reads_chunk g c =
     let read = c.in_ok-read_page.ensures in
-    let form = c.in-Err.ensures in
-    no_form _ g.P.File.PageFile.pages c.args.number c.args.chunk.now _ _ c.args.page (first_bytes c.read_page.new.access.frames.items) c.bytes.result.now c.schema-schema.result.now c.in-Err.form.byte c.requires.built c.requires.within read.page read.brought
-    c.bytes.ensures.same c.schema-schema.ensures read.digest form.fault form.only
+    let form = c.in-Err.ensures in (
+      read.reads_chunk.0,
+      no_form _ g.P.File.PageFile.pages c.args.number c.args.chunk.now _ _ c.args.page (first_bytes c.read_page.new.access.frames.items) c.bytes.result.now c.schema-schema.result.now c.in-Err.form.byte c.requires.built c.requires.within
+          read.page read.brought read.reads_chunk.1 c.bytes.ensures.same c.schema-schema.ensures read.digest form.fault form.only,
+    )
+
+-- what landed is the page as it was written, where its content is known
+pub returns-clause-rows : goal.returns-clause-rows
+returns-clause-rows g c known pages heap entries has =
+    adds_seen c.args.chunk.now.schema c.schema-schema.result.now pages c.args.page (first_bytes c.read_page.new.access.frames.items) c.bytes.result.now c.in-Ok.view entries _ _ c.schema-schema.ensures c.bytes.ensures.same
+    (c.in_ok-read_page.ensures.page known pages heap) has c.in-Ok.ensures.only c.in_ok-push_rows-in-Ok.ensures

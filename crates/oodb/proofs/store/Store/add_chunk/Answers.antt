@@ -3,7 +3,7 @@ use Rattle.std.proofs.Common.{◌≡◌, ◌<◌, ◌≤◌, ◌+◌, length, re
 use Rattle.std.proofs.lemmas.List.{length-set}
 use Rattle.hv_model.specs.Database.{import_refusal}
 use Rattle.oodb.specs.Stored.{table_of, database_of}
-use Rattle.oodb.proofs.StoreChanges.{some_within, some_is, stands_at, step_import, sound_more}
+use Rattle.oodb.proofs.StoreChanges.{some_within, some_is, stands_at, step_import, sound_more, files_more}
 use Rattle.oodb.proofs.store.Store.add_chunk.Goals as goal
 
 pub returns-clause-ok : goal.returns-clause-ok
@@ -26,3 +26,10 @@ returns-clause-sound g c =
       made = (let h : s.made ≤ s.length = c.requires.sound.made in omega arith);
       count = (let h : length s.tables.items ≤ s.length = c.requires.sound.count in omega (arith, length-set s.tables.items c.args.at (record t { chunks = c.push_reserved.new.self })));
     }
+
+pub returns-clause-files : goal.returns-clause-files
+returns-clause-files g c files are =
+    let s = c.args.self.now in
+    let t = c.index_mut.result.now in
+    let within : c.args.at < length s.tables.items = some_within _ s.tables.items c.args.at c.requires.accepted in
+    files_more s _ c.args.at t (record t { chunks = c.push_reserved.new.self }) (record { number = s.made + 1; chunk = c.args.chunk }) files within c.index_mut.ensures.value refl c.push_reserved.ensures.items refl refl are

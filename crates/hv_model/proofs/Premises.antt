@@ -1,0 +1,74 @@
+-- A premise from which the premise of known content follows may stand in its place.
+use Rattle.std.specs.Prelude.{ℕ, List}
+use Rattle.hv_model.specs.declared.script.Statement.{Statement}
+use Rattle.hv_model.specs.declared.script.Script.{Script}
+use Rattle.hv_model.specs.declared.catalogue.Database.{Database}
+use Rattle.hv_model.specs.declared.catalogue.Entry.{Entry}
+use Rattle.hv_model.specs.declared.reply.Reply.{Reply}
+use Rattle.hv_model.specs.declared.reply.Reply.TheVariants.{Done, Rows, Refused, Failed}
+use Rattle.hv_model.specs.declared.reply.Refusal.{Refusal}
+use Rattle.hv_model.specs.declared.query.Cell.{Cell}
+use Rattle.hv_model.specs.Legal.{Answered, IsRefusedFor, Legal}
+use Rattle.hv_model.specs.OneSession.{Settles, LegalSoFar, Kept}
+
+-- an answer
+pub answered_under : (k j : Type 0) → (k → j) → (x : Statement) (s : Database) (max : ℕ) (rows : List (List Cell)) → Answered x s max j rows → Answered x s max k rows
+answered_under k j follows x s max rows answered = record {
+  query = answered.query;
+  is = answered.is;
+  early = answered.early;
+  allowed = (λ known. answered.allowed (follows known));
+  answer = (λ known. answered.answer (follows known));
+}
+
+-- a refusal
+pub refused_under : (k j : Type 0) → (k → j) → (x : Statement) (s : Database) (max : ℕ) (cause : Refusal) → IsRefusedFor x s max j cause → IsRefusedFor x s max k cause
+refused_under k j follows x s max cause refused = record { told = (λ known. refused.told (follows known)); cause_is = refused.cause_is }
+
+-- what the answer to one statement owes
+pub settles_under : (k j : Type 0) → (k → j) → (x : Statement) (max : ℕ) (before : Database) (history : List Entry) (r : Reply) (new : Database) (longer : List Entry)
+    → Settles x max j before history r new longer → Settles x max k before history r new longer
+settles_under k j follows x max before history (Done at what) new longer settles = settles
+settles_under k j follows x max before history (Rows at rows) new longer settles = (settles.0, answered_under k j follows x before max rows settles.1)
+settles_under k j follows x max before history (Refused at cause) new longer settles = (settles.0, refused_under k j follows x before max cause settles.1)
+settles_under k j follows x max before history (Failed at cause) new longer settles = settles
+
+-- what holds of the replies to the first statements
+pub so_far_under : (k j : Type 0) → (k → j) → (s : Script) (xs : List Statement) (max : ℕ) (history : List Entry) (rs : List Reply)
+    → LegalSoFar s xs max j history rs → LegalSoFar s xs max k history rs
+so_far_under k j follows s xs max history rs legal = record {
+  entries = legal.entries;
+  done = legal.done;
+  steps = legal.steps;
+  along = legal.along;
+  within = legal.within;
+  rows = (λ i x n rows stands reply. answered_under k j follows x _ max rows (legal.rows i x n rows stands reply));
+  refused = (λ i x n cause stands reply. refused_under k j follows x _ max cause (legal.refused i x n cause stands reply));
+  failed = legal.failed;
+  counted = legal.counted;
+}
+
+-- what holds between two statements
+pub kept_under : (k j : Type 0) → (k → j) → (s : Script) (xs : List Statement) (max : ℕ) (now : Database) (history : List Entry) (rs : List Reply)
+    → Kept s xs max j now history rs → Kept s xs max k now history rs
+kept_under k j follows s xs max now history rs kept = record {
+  database = kept.database;
+  short = kept.short;
+  legal = so_far_under k j follows s xs max history rs kept.legal;
+}
+
+-- a legal outcome
+pub legal_under : (k j : Type 0) → (k → j) → (s : Script) (max : ℕ) (history : List Entry) (replies : List (List Reply)) → Legal s max j history replies → Legal s max k history replies
+legal_under k j follows s max history replies legal = record {
+  once = legal.once;
+  parts = record {
+    entries = legal.parts.entries;
+    done = legal.parts.done;
+    steps = legal.parts.steps;
+    along = legal.parts.along;
+    phases = legal.parts.phases;
+    rows = (λ x n rows stands reply. answered_under k j follows x _ max rows (legal.parts.rows x n rows stands reply));
+    refused = (λ x n cause stands reply. refused_under k j follows x _ max cause (legal.parts.refused x n cause stands reply));
+    failed = legal.parts.failed;
+  };
+}

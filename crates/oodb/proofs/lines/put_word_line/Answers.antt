@@ -1,0 +1,5 @@
+-- What was put to a blank printer is the line.
+use Rattle.oodb.proofs.lines.put_word_line.Goals as goal
+
+pub returns : goal.returns
+returns g c = record { all = c.finish.ensures.whole _ _ _ c.print_word.ensures c.new-printer.ensures; part = c.finish.ensures.cut _ _ _ c.print_word.ensures c.new-printer.ensures }

@@ -1,0 +1,7 @@
+-- What was taken and what is left are the arguments behind the first.
+use Rattle.std.proofs.Common.{◌≡◌, ◌++◌, map, drop, string_bytes}
+use Rattle.std.specs.Vec.Iter.{into_iter_items}
+use Rattle.oodb.proofs.words_behind.Given as goal
+
+abbrev pub invariant-loop-arg : goal.invariant-loop-arg
+invariant-loop-arg l = l.words.items ++ map string_bytes (into_iter_items l.arg-iterator) ≡ map string_bytes (drop 1 (into_iter_items l.fn.args))
