@@ -12,3 +12,4 @@ pub mod Grouped
 pub mod Lawful
 pub mod Ordered
 pub mod Shuffled
+pub mod Cuts

@@ -6,6 +6,8 @@ mod aggregate;
 mod condition;
 mod grouping;
 mod law;
+mod lent;
+mod limited;
 mod loops;
 mod ordering;
 mod plain;
