@@ -5,6 +5,7 @@ use Rattle.std.proofs.lemmas.Bool.{cases_lt}
 use Rattle.std.proofs.lemmas.Bool.Decides.{nat_tests}
 use Rattle.hv_model.specs.declared.tree.PlaceAst.{PlaceAst}
 use Rattle.hv_model.specs.declared.tree.KeyAst.{KeyAst}
+use Rattle.hv_model.specs.declared.tree.ItemAst.{ItemAst}
 use Rattle.hv_model.specs.declared.tree.SelectAst.{SelectAst}
 use Rattle.hv_model.specs.declared.catalogue.TableHead.{TableHead}
 use Rattle.hv_model.specs.declared.query.Item.{Item}
@@ -50,13 +51,20 @@ last_of : (a b c : Option Refusal) → a ≡ None → b ≡ None → first_of (a
 last_of a b c e f = ap (λ z. option_or z (option_or b (option_or c None))) e ∙ ap (λ z. option_or z (option_or c None)) f ∙ none_behind c
 
 -- where names and plain columns are allowed, order keys are what is refused
-pub order_last : (x : SelectAst) (heads : List TableHead) → names_refusal x heads ≡ None → grouping_refusal x heads ≡ None → bind_refusal x heads ≡ order_refusal x heads
+order_last : (x : SelectAst) (heads : List TableHead) → names_refusal x heads ≡ None → grouping_refusal x heads ≡ None → bind_refusal x heads ≡ order_refusal x heads
 order_last x heads e f = last_of (names_refusal x heads) (grouping_refusal x heads) (order_refusal x heads) e f
 
 -- order keys over all items
-pub order_of : (x : SelectAst) (heads : List TableHead) (places : List PlaceAst) (items : List Item) (keys : List KeyAst) → places ≡ x.places → items ≡ all_items x.places heads x.items → keys ≡ x.order → keys_refusal places heads items keys ≡ order_refusal x heads
+order_of : (x : SelectAst) (heads : List TableHead) (places : List PlaceAst) (items : List Item) (keys : List KeyAst) → places ≡ x.places → items ≡ all_items x.places heads x.items → keys ≡ x.order → keys_refusal places heads items keys ≡ order_refusal x heads
 order_of x heads places items keys p i k =
     ap (λ z. keys_refusal z heads items keys) p ∙ ap (λ z. keys_refusal x.places heads z keys) i ∙ ap (keys_refusal x.places heads (all_items x.places heads x.items)) k
+
+-- where names and plain columns are allowed, what is refused is a key over the places and items that were made
+pub keys_last : (x : SelectAst) (heads : List TableHead) (places : List PlaceAst) (asts : List ItemAst) (items made : List Item) (keys : List KeyAst) → None ≡ names_refusal x heads → None ≡ grouping_refusal x heads
+    → places ≡ x.places → asts ≡ x.items → keys ≡ x.order → items ≡ made → made ≡ all_items places heads asts → keys_refusal places heads items keys ≡ bind_refusal x heads
+keys_last x heads places asts items made keys names grouping p a k same m =
+    let are : items ≡ all_items x.places heads x.items = same ∙ m ∙ ap (λ z. all_items z heads asts) p ∙ ap (all_items x.places heads) a in
+    order_of x heads places items keys p are k ∙ sym (order_last x heads (sym names) (sym grouping))
 
 -- what explains a refusal explains the same
 pub explains_same : (a b : Option Refusal) (fault : BindFault) → a ≡ b → Explains a fault → Explains b fault

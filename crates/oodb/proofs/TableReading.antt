@@ -5,7 +5,6 @@ use Rattle.std.specs.Option.{option_map}
 use Rattle.std.proofs.lemmas.List.{take_all}
 use Rattle.std.proofs.lemmas.Option.{slice_get-map}
 use Rattle.hv_row.specs.declared.value.Value.{Value}
-use Rattle.hv_row.specs.declared.schema.Column.{Column}
 use Rattle.hv_dev.specs.Reading.{Landing}
 use Rattle.hv_page.specs.Chunk.{AreHeapPages}
 use Rattle.hv_view.specs.View.{IsBuilt}
@@ -37,18 +36,29 @@ pub record ChunkStands {File : Type 0} (tells : Bool) (pages : File → List (Li
   pub has : slice_get table.chunks.items place ≡ Some c
   pub built : IsBuilt tells pages table.schema c.chunk.rows c.chunk
 
--- the chunk at a place of the table of a number
-pub chunk_stands : {File : Type 0} (tells : Bool) (pages : File → List (List ℕ)) (s : Store File) (at place : ℕ) (t : StoredTable File) (c : StoredChunk File) (its : List (StoredChunk File)) → IsSound tells pages s
-    → at < length s.tables.items → t ≡ get_or s.tables.items at t → place < length its → c ≡ get_or its place c → its ≡ t.chunks.items → ChunkStands tells pages s c
-chunk_stands {File} tells pages s at place t c its sound within is below item all =
-    let stands : slice_get s.tables.items at ≡ Some t = stands_at s.tables.items at t within is in
-    let has : slice_get t.chunks.items place ≡ Some c = subst (λ (l : List (StoredChunk File)). slice_get l place ≡ Some c) all (stands_at its place c below item) in
-    let table : TableIsSound tells pages t = all_stands _ s.tables.items at t sound.tables stands in
-    record { at = at; table = t; stands = stands; place = place; has = has; built = all_stands _ t.chunks.items place c table has }
+-- the chunk at a place of a table of a store
+pub record StandsAt {File : Type 0} (tells : Bool) (pages : File → List (List ℕ)) (s : Store File) (chunks : List (StoredChunk File)) (place : ℕ) : Type 0 where
+  pub item : StoredChunk File
+  pub has : slice_get chunks place ≡ Some item
+  pub it : ChunkStands tells pages s item
 
--- it is built under its own schema
-pub own_built : {File : Type 0} (tells : Bool) (pages : File → List (List ℕ)) (s : Store File) (c : StoredChunk File) → ChunkStands tells pages s c → IsBuilt tells pages c.chunk.schema c.chunk.rows c.chunk
-own_built tells pages s c it = subst (λ (schema : List Column). IsBuilt tells pages schema c.chunk.rows c.chunk) (sym it.built.recorded.schema_is) it.built
+held : {X : Type 0} (xs : List X) (place : ℕ) → place < length xs → (x : X) × (slice_get xs place ≡ Some x)
+held [] place below = absurd (omega arith)
+held (x ∷ xs) zero below = (x, refl)
+held (x ∷ xs) (suc place) below = held xs place (omega arith)
+
+-- within the table of a number there is one
+pub stands_within : {File : Type 0} (tells : Bool) (pages : File → List (List ℕ)) (s : Store File) (at place : ℕ) (t : StoredTable File) → IsSound tells pages s → at < length s.tables.items → t ≡ get_or s.tables.items at t
+    → place < length t.chunks.items → StandsAt tells pages s t.chunks.items place
+stands_within {File} tells pages s at place t sound within is below =
+    let stands : slice_get s.tables.items at ≡ Some t = stands_at s.tables.items at t within is in
+    let table : TableIsSound tells pages t = all_stands _ s.tables.items at t sound.tables stands in
+    let found = held t.chunks.items place below in
+    record {
+      item = found.0;
+      has = found.1;
+      it = record { at = at; table = t; stands = stands; place = place; has = found.1; built = all_stands _ t.chunks.items place found.0 table found.1 };
+    }
 
 -- its file
 file_of : {File : Type 0} (tells : Bool) (pages : File → List (List ℕ)) (s : Store File) (c : StoredChunk File) (files : List File) → ChunkStands tells pages s c → AreFiles s files → IsFileOf files c.number c.chunk.file
@@ -140,12 +150,12 @@ pub record ReadSoFar {File : Type 0} (tells : Bool) (s : Store File) (chunks : L
   pub rows : DatabaseIsKnown tells (database_of s) now.reading.landings → out ≡ flat_map (λ c. c.chunk.rows) (take count chunks)
 
 -- the first elements and the one behind them
-flat_map_take : {X Y : Type 0} (f : X → List Y) (xs : List X) (count : ℕ) (x : X) → count < length xs → x ≡ get_or xs count x → flat_map f (take (count + 1) xs) ≡ flat_map f (take count xs) ++ f x
-flat_map_take f [] count x within is = absurd (omega arith)
-flat_map_take f (y ∷ ys) zero x within is = rw is (append-nil (f y))
-flat_map_take f (y ∷ ys) (suc count) x within is =
+flat_map_take : {X Y : Type 0} (f : X → List Y) (xs : List X) (count : ℕ) (x : X) → slice_get xs count ≡ Some x → flat_map f (take (count + 1) xs) ≡ flat_map f (take count xs) ++ f x
+flat_map_take f [] count x has = absurd cc
+flat_map_take f (y ∷ ys) zero x has = let same : y ≡ x = cc in append-nil (f y) ∙ ap f same
+flat_map_take f (y ∷ ys) (suc count) x has =
     let next : suc count + 1 ≡ suc (count + 1) = omega arith in
-    ap (λ n. flat_map f (take n (y ∷ ys))) next ∙ ap (λ l. f y ++ l) (flat_map_take f ys count x (omega arith) is) ∙ sym (append_assoc (f y) (flat_map f (take count ys)) (f x))
+    ap (λ n. flat_map f (take n (y ∷ ys))) next ∙ ap (λ l. f y ++ l) (flat_map_take f ys count x has) ∙ sym (append_assoc (f y) (flat_map f (take count ys)) (f x))
 
 -- before the first chunk
 pub none_read : {File : Type 0} (tells : Bool) (s : Store File) (chunks : List (StoredChunk File)) (port : PortSeen File) (out : List (List Value)) → IsIdle port → out ≡ [] → ReadSoFar tells s chunks 0 port port out
@@ -157,22 +167,22 @@ none_read tells s chunks port out idle nothing = record {
 
 -- a chunk more was read
 pub one_more_read : {File : Type 0} (tells : Bool) (pages : File → List (List ℕ)) (s : Store File) (chunks : List (StoredChunk File)) (count : ℕ) (c : StoredChunk File) (before mid after : PortSeen File) (out more : List (List Value))
-    → ChunkStands tells pages s c → ReadSoFar tells s chunks count before mid out → count < length chunks → c ≡ get_or chunks count c
+    → ChunkStands tells pages s c → ReadSoFar tells s chunks count before mid out → slice_get chunks count ≡ Some c
     → ReadsOn mid.reading after.reading → after.write_faults ≡ mid.write_faults → after.written ≡ mid.written → AllServeChunk c.chunk mid.reading after.reading
     → (ChunkIsKnown tells c.chunk after.reading.landings → more ≡ out ++ c.chunk.rows) → ReadSoFar tells s chunks (count + 1) before after more
-one_more_read tells pages s chunks count c before mid after out more it far within is reads writes written serve rows =
+one_more_read tells pages s chunks count c before mid after out more it far has reads writes written serve rows =
     let on : GoesOn mid after = record { reads = reads; faults = omega arith; empty = written ∙ far.goes_on.empty } in record {
       goes_on = goes_on_more before mid after far.goes_on reads writes written;
       well = well_both s before mid after on far.well (chunk_well tells pages s c mid after it serve writes);
       rows = λ known. rows (chunk_known tells pages s it.at it.place it.table c after.reading.landings it.stands it.has it.built known)
           ∙ ap (λ l. l ++ c.chunk.rows) (far.rows (database_known_fewer tells (database_of s) mid.reading.landings reads.more after.reading.landings reads.landed known))
-          ∙ sym (flat_map_take (λ c. c.chunk.rows) chunks count c within is);
+          ∙ sym (flat_map_take (λ c. c.chunk.rows) chunks count c has);
     }
 
 -- all chunks of a table were read
-pub all_read : {File : Type 0} (tells : Bool) (s : Store File) (chunks its : List (StoredChunk File)) (count : ℕ) (before now : PortSeen File) (out : List (List Value)) → ReadSoFar tells s chunks count before now out → length chunks ≤ count → chunks ≡ its
-    → DatabaseIsKnown tells (database_of s) now.reading.landings → out ≡ flat_map (λ c. c.chunk.rows) its
-all_read tells s chunks its count before now out far all are known = far.rows known ∙ ap (flat_map (λ c. c.chunk.rows)) (take_all count chunks all ∙ are)
+pub all_read : {File : Type 0} (tells : Bool) (s : Store File) (chunks : List (StoredChunk File)) (count : ℕ) (before now : PortSeen File) (out : List (List Value)) → ReadSoFar tells s chunks count before now out → length chunks ≤ count
+    → DatabaseIsKnown tells (database_of s) now.reading.landings → out ≡ flat_map (λ c. c.chunk.rows) chunks
+all_read tells s chunks count before now out far all known = far.rows known ∙ ap (flat_map (λ c. c.chunk.rows)) (take_all count chunks all)
 
 -- a chunk was not read, behind those that were
 pub chunk_unread : {File : Type 0} (tells : Bool) (pages : File → List (List ℕ)) (s : Store File) (chunks : List (StoredChunk File)) (count : ℕ) (c : StoredChunk File) (before mid after : PortSeen File) (out : List (List Value))

@@ -1,12 +1,14 @@
 -- The rows that pages give. This project's own.
-use Rattle.std.specs.Prelude.{◌≡◌, ℕ, List, ◌++◌, All, Some, map, slice_get}
+use Rattle.std.specs.Prelude.{◌≡◌, ℕ, Bool, List, ◌++◌, All, Some, map, slice_get}
 use Rattle.hv_row.specs.declared.value.Value.{Value}
 use Rattle.hv_row.specs.declared.schema.Column.{Column}
 use Rattle.hv_row.specs.Row.{RowFits, row_bytes}
 use Rattle.hv_page.specs.Layout.{written_version}
 use Rattle.hv_page.specs.Heap.{IsHeapPage}
 use Rattle.hv_page.specs.Chunk.{AreHeapPages}
+use Rattle.hv_dev.specs.Reading.{Landing}
 use Rattle.hv_view.specs.View.{Viewed}
+use Rattle.hv_view.specs.Known.{ChunkIsKnown}
 
 -- the rows that these entries spell went behind the rows
 pub record AddsRows (schema : List Column) (entries : List (List ℕ)) (before after : List (List Value)) : Type 0 where
@@ -30,3 +32,7 @@ abbrev pub AddsPage : {File : Type 0} → Viewed File → ℕ → List (List Val
 AddsPage chunk page before after =
     (pages : List (List ℕ)) → AreHeapPages chunk.version chunk.schema pages chunk.rows
     → (entries : List (List ℕ)) → HasEntries chunk.schema pages page entries → AddsRows chunk.schema entries before after
+
+-- where the content of a chunk is known, its rows went behind the rows
+pub record AddsChunk {File : Type 0} (tells : Bool) (chunk : Viewed File) (landings : List (Landing File)) (before after : List (List Value)) : Type 0 where
+  pub rows : ChunkIsKnown tells chunk landings → after ≡ before ++ chunk.rows

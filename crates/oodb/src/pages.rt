@@ -7,7 +7,7 @@ ghost use Rattle.hv_view.specs.View.{IsBuilt};
 ghost use Rattle.hv_view.specs.Known.{ChunkIsKnown};
 ghost use Rattle.oodb.specs.Reads.{ReadsOn, BroughtBytes, first_bytes};
 ghost use Rattle.oodb.specs.Damage.{ReadsChunk};
-ghost use Rattle.oodb.specs.RowsRead.{AddsRows, AddsPage, IsAsWritten};
+ghost use Rattle.oodb.specs.RowsRead.{AddsRows, AddsPage, AddsChunk, IsAsWritten};
 
 use crate::access::PageAccess;
 use hv_chunk::Chunk;
@@ -31,7 +31,7 @@ pub fn read_chunk<P: Port>(
     requires built { IsBuilt P.File.tells P.File.pages chunk.now.schema chunk.now.rows chunk.now }
     requires room { 0 < (P.reading access.old.port).room }
     requires idle { (P.reading access.old.port).in_flight ≡ [] }
-    ensures rows { OnOk result (ChunkIsKnown P.File.tells chunk.now (P.reading access.new.port).landings → out.new ≡ out.old ++ chunk.now.rows) }
+    ensures rows { OnOk result (AddsChunk P.File.tells chunk.now (P.reading access.new.port).landings out.old out.new) }
     ensures reads_chunk { ReadsChunk P.File.tells number chunk.now (P.reading access.old.port) (P.reading access.new.port) result }
     ensures reads { ReadsOn (P.reading access.old.port) (P.reading access.new.port) }
     ensures faults { P.write_faults access.new.port ≡ P.write_faults access.old.port }

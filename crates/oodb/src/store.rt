@@ -3,7 +3,7 @@ ghost use Rattle.std.specs.Prelude.{◌≡◌, ℕ, ◌+◌, ◌<◌, [], ◌∷
 ghost use Rattle.hv_model.specs.declared.catalogue.Command.TheVariants.{Create, Import};
 ghost use Rattle.hv_model.specs.Database.{empty_database, table_number, create_refusal, import_refusal, step};
 ghost use Rattle.hv_view.specs.View.{IsBuilt};
-ghost use Rattle.oodb.specs.Stored.{table_of, database_of, IsSound, AreFiles};
+ghost use Rattle.oodb.specs.Stored.{table_of, database_of, TableIsSound, IsSound, AreFiles};
 
 use hv_chunk::Chunk;
 use hv_dev::PageFile;
@@ -34,6 +34,18 @@ pub struct StoredTable<F> {
     pub name: Bytes,
     pub schema: Schema,
     pub chunks: Vec<StoredChunk<F>>,
+}
+
+impl<F: PageFile> StoredTable<F> {
+    /// The chunk at a place of the table, in the order of import, from 0.
+    pub fn chunk(&self, place: usize) -> &StoredChunk<F>
+        requires within { place < length self.now.chunks.items }
+        requires sound { TableIsSound F.tells F.pages self.now }
+        ensures stands { slice_get self.now.chunks.items place ≡ Some result.now }
+        ensures built { IsBuilt F.tells F.pages result.now.chunk.schema result.now.chunk.rows result.now.chunk }
+    {
+        &self.chunks[place]
+    }
 }
 
 /// The tables in order of creation, how many chunks were ever made, and how many commands were accepted.

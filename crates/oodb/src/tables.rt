@@ -1,15 +1,18 @@
 // The rows of the tables of a query.
-ghost use Rattle.std.specs.Prelude.{◌≡◌, ◌<◌, ◌==◌, length, map, position, IfOk};
+ghost use Rattle.std.specs.Prelude.{◌≡◌, [], ◌<◌, ◌==◌, ◌++◌, length, map, position, slice_get, Some, OnOk, IfOk};
 ghost use Rattle.std.specs.List.{All};
 ghost use Rattle.hv_model.specs.Query.{rows_of_number};
-ghost use Rattle.oodb.specs.Stored.{database_of, IsSound};
+ghost use Rattle.oodb.specs.declared.store.StoredChunk.{StoredChunk};
+ghost use Rattle.oodb.specs.Stored.{database_of, TableIsSound, IsSound};
 ghost use Rattle.oodb.specs.Known.{DatabaseIsKnown};
-ghost use Rattle.oodb.specs.Reads.{port_seen, IsIdle, GoesOn};
+ghost use Rattle.oodb.specs.Reads.{port_seen, IsIdle, ReadsOn, GoesOn};
+ghost use Rattle.oodb.specs.Damage.{ReadsChunk};
+ghost use Rattle.oodb.specs.RowsRead.{AddsChunk};
 ghost use Rattle.oodb.specs.Answer.{ReadsTables};
 
 use crate::access::PageAccess;
 use crate::pages::read_chunk;
-use crate::store::Store;
+use crate::store::{Store, StoredTable};
 use hv_dev::Port;
 use hv_model::{Failure, PlainTables};
 use hv_row::{Copied, Rows};
@@ -82,9 +85,32 @@ fn read_table<P: Port>(
     ensures reads { ReadsTables P.File.tells store.now (port_seen P.PageSink access.old.port) (port_seen P.PageSink access.new.port) result }
     ensures goes_on { GoesOn (port_seen P.PageSink access.old.port) (port_seen P.PageSink access.new.port) }
 {
+    let table = &store.tables[at];
     let mut rows = Rows::new(alloc);
-    for stored in store.tables[at].chunks.as_slice() {
-        read_chunk(alloc, stored.number, &stored.chunk, access, &mut rows)?;
+    for place in 0..table.chunks.len() {
+        read_stored(alloc, table, place, access, &mut rows)?;
     }
     Ok(rows)
+}
+
+// Puts the rows of the chunk at a place of a table behind the rows.
+fn read_stored<P: Port>(
+    alloc: Global,
+    table: &StoredTable<P::File>,
+    place: usize,
+    access: &mut PageAccess<P>,
+    out: &mut Rows,
+) -> Result<(), Failure>
+    requires within { place < length table.now.chunks.items }
+    requires sound { TableIsSound P.File.tells P.File.pages table.now }
+    requires room { 0 < (P.reading access.old.port).room }
+    requires idle { (P.reading access.old.port).in_flight ≡ [] }
+    ensures rows { (c : StoredChunk P.File) → slice_get table.now.chunks.items place ≡ Some c → OnOk result (AddsChunk P.File.tells c.chunk (P.reading access.new.port).landings out.old out.new) }
+    ensures reads_chunk { (c : StoredChunk P.File) → slice_get table.now.chunks.items place ≡ Some c → ReadsChunk P.File.tells c.number c.chunk (P.reading access.old.port) (P.reading access.new.port) result }
+    ensures reads { ReadsOn (P.reading access.old.port) (P.reading access.new.port) }
+    ensures faults { P.write_faults access.new.port ≡ P.write_faults access.old.port }
+    ensures kept { P.written access.new.port ≡ P.written access.old.port }
+{
+    let stored = table.chunk(place);
+    read_chunk(alloc, stored.number, &stored.chunk, access, out)
 }

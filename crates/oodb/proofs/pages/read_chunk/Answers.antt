@@ -44,4 +44,4 @@ loop-page-preserved g c =
 
 -- the rows of all pages
 pub returns-clause-rows : goal.returns-clause-rows
-returns-clause-rows g c = adds_pages_all _ c.args.chunk.now c.loop-page.page c.args.out.now c.loop-page.out c.requires.built.recorded (omega arith) c.loop-page.invariant.adds
+returns-clause-rows g c = record { rows = adds_pages_all _ c.args.chunk.now c.loop-page.page c.args.out.now c.loop-page.out c.requires.built.recorded (omega arith) c.loop-page.invariant.adds }

@@ -3,6 +3,6 @@ use Rattle.oodb.specs.Reads.{port_seen}
 use Rattle.oodb.proofs.TableReading.{ReadSoFar}
 use Rattle.oodb.proofs.tables.read_table.Given as goal
 
-abbrev pub invariant-loop-stored : goal.invariant-loop-stored
-invariant-loop-stored g l = ReadSoFar g.P.File.PageFile.tells l.store l.stored-items l.stored-index
+abbrev pub invariant-loop-place : goal.invariant-loop-place
+invariant-loop-place g l = ReadSoFar g.P.File.PageFile.tells l.store l.table.chunks.items l.place
     (port_seen g.P.PageSink l.fn.access.port) (port_seen g.P.PageSink l.access.port) l.rows
