@@ -7,8 +7,6 @@ mod lexeme;
 mod query;
 mod reply;
 mod script;
-#[cfg(test)]
-mod tests;
 mod token;
 mod tree;
 

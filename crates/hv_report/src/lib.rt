@@ -3,8 +3,6 @@
 
 mod law;
 mod report;
-#[cfg(test)]
-mod tests;
 mod writing;
 
 pub use law::report_law;

@@ -8,8 +8,6 @@ mod lines;
 mod reading;
 mod script;
 mod statement;
-#[cfg(test)]
-mod tests;
 mod text;
 mod words;
 

@@ -1,0 +1,35 @@
+// Scripts of many bytes, and what is told of scripts.
+use hv_model::{FaultName, Script, ScriptFault, Statement};
+use hv_script::{BytesFault, MOST_STATEMENTS, read_statements};
+use std::alloc::{AllocError, Global};
+
+// The statements of a script of one session and one phase; none of any other.
+pub fn statements(script: &Script) -> &[Statement] {
+    match script.phases.as_slice() {
+        [phase] if script.sessions.len() == 1 => phase.as_slice(),
+        _ => &[],
+    }
+}
+
+// Whether this is the fault of a script, told at this byte.
+pub fn is_fault(alloc: Global, text: &[u8], name: FaultName, byte: u32) -> bool {
+    match read_statements(alloc, text) {
+        Err(BytesFault::Found(fault)) => fault == ScriptFault { name, byte },
+        _ => false,
+    }
+}
+
+// As many statements as a script has, with this behind them.
+pub fn full(alloc: Global, behind: &[u8]) -> Result<Vec<u8>, AllocError> {
+    let mut script = Vec::new(alloc);
+    for _ in 0..MOST_STATEMENTS {
+        script.extend_from_slice(b"a;")?;
+    }
+    script.extend_from_slice(behind)?;
+    Ok(script)
+}
+
+// So many blanks.
+pub fn blanks(alloc: Global, len: usize) -> Result<Vec<u8>, AllocError> {
+    vec![in alloc; b' '; len]
+}
