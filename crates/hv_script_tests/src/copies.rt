@@ -3,6 +3,7 @@ use hv_model::{BoundQuery, Cmp, ColRef, Cond, Item, Operand, SortKey, TableHead}
 use hv_row::{Bytes, ColType, Column, Columns, Copied, Listed, Schema, Value, is_schema};
 use sqlite_items::Boxed;
 use std::alloc::{AllocError, Global};
+use std::fmt::Debug;
 use std::test::Fail;
 
 // A schema of one column, of numbers and with an index.
@@ -20,16 +21,26 @@ fn schema(alloc: Global) -> Result<Schema, Fail> {
     Ok(Schema::new(columns))
 }
 
+// Whether a copy is shown as what it copies.
+fn is_copied<T: Copied + Debug + Drop>(alloc: Global, item: &T) -> Result<bool, AllocError> {
+    let copy = item.copy(alloc)?;
+    let shown = format!(in alloc; "{copy:?}")?;
+    Ok(shown == format!(in alloc; "{item:?}")?)
+}
+
+fn table_head(alloc: Global) -> Result<TableHead, Fail> {
+    Ok(TableHead {
+        number: 3,
+        name: Bytes::from_slice(alloc, b"t")?,
+        schema: schema(alloc)?,
+    })
+}
+
 #[test]
 fn table_heads_are_copied(rt: HostRuntime) -> Result<(), Fail> {
-    let head = TableHead {
-        number: 3,
-        name: Bytes::from_slice(rt.alloc(), b"t")?,
-        schema: schema(rt.alloc())?,
-    };
-    let copy = head.copy(rt.alloc())?;
-    assert!(rt; copy.number == 3);
-    assert!(rt; format!(in rt.alloc(); "{copy:?}")? == format!(in rt.alloc(); "{head:?}")?);
+    let head = table_head(rt.alloc())?;
+    assert!(rt; is_copied(rt.alloc(), &head)?);
+    assert!(rt; head.copy(rt.alloc())?.number == 3);
     Ok(())
 }
 
@@ -71,8 +82,7 @@ fn condition(alloc: Global) -> Result<Cond, AllocError> {
 #[test]
 fn conditions_are_copied(rt: HostRuntime) -> Result<(), Fail> {
     let cond = condition(rt.alloc())?;
-    let copy = cond.copy(rt.alloc())?;
-    assert!(rt; format!(in rt.alloc(); "{copy:?}")? == format!(in rt.alloc(); "{cond:?}")?);
+    assert!(rt; is_copied(rt.alloc(), &cond)?);
     Ok(())
 }
 
@@ -106,8 +116,7 @@ fn query(alloc: Global) -> Result<BoundQuery, AllocError> {
 #[test]
 fn queries_are_copied(rt: HostRuntime) -> Result<(), Fail> {
     let query = query(rt.alloc())?;
-    let copy = query.copy(rt.alloc())?;
-    assert!(rt; copy.limit == Some(5));
-    assert!(rt; format!(in rt.alloc(); "{copy:?}")? == format!(in rt.alloc(); "{query:?}")?);
+    assert!(rt; is_copied(rt.alloc(), &query)?);
+    assert!(rt; query.copy(rt.alloc())?.limit == Some(5));
     Ok(())
 }
