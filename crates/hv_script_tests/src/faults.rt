@@ -35,8 +35,11 @@ const FAULTS: [(&[u8], FaultName, u32); 12] = [
 
 #[test]
 fn faults_are_told(rt: HostRuntime) {
-    for (at, (text, name, byte)) in FAULTS.into_iter().enumerate() {
-        assert!(rt; is_fault(rt.alloc(), text, name, byte), "script {at}");
+    for (text, name, byte) in FAULTS {
+        assert!(rt;
+            is_fault(rt.alloc(), text, name, byte),
+            "{name:?} at {byte}"
+        );
     }
 }
 
@@ -66,7 +69,10 @@ const PAIRS: [(&[u8], FaultName, u32); 12] = [
 
 #[test]
 fn one_of_two_faults_is_told(rt: HostRuntime) {
-    for (at, (text, name, byte)) in PAIRS.into_iter().enumerate() {
-        assert!(rt; is_fault(rt.alloc(), text, name, byte), "script {at}");
+    for (text, name, byte) in PAIRS {
+        assert!(rt;
+            is_fault(rt.alloc(), text, name, byte),
+            "{name:?} at {byte}"
+        );
     }
 }

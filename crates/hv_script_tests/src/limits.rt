@@ -1,9 +1,8 @@
 // The script of most statements and the longest, and what is told past them.
-use crate::made::{blanks, full, is_fault, statements};
-use hv_io::MemSource;
+use crate::made::{blanks, full, is_fault, read_pieces, statements};
 use hv_model::{FaultName, ScriptFault};
-use hv_script::{MOST_BYTES, MOST_STATEMENTS, ReadScriptFault, read_script, read_statements};
-use std::alloc::Global;
+use hv_script::{MOST_BYTES, MOST_STATEMENTS, ReadScriptFault, read_statements};
+use std::alloc::{AllocError, Global};
 use std::test::Fail;
 
 #[test]
@@ -35,11 +34,11 @@ const BEHIND: [(&[u8], FaultName, u32); 7] = [
 
 #[test]
 fn faults_behind_most_statements_are_told(rt: HostRuntime) -> Result<(), Fail> {
-    for (at, (behind, name, byte)) in BEHIND.into_iter().enumerate() {
+    for (behind, name, byte) in BEHIND {
         let text = full(rt.alloc(), behind)?;
         assert!(rt;
             is_fault(rt.alloc(), text.as_slice(), name, byte),
-            "case {at}"
+            "{name:?} at {byte}"
         );
     }
     Ok(())
@@ -53,10 +52,9 @@ fn a_fault_before_too_many_statements_is_told(rt: HostRuntime) -> Result<(), Fai
     Ok(())
 }
 
-// The fault that is told of a source of so many blanks, if any.
-fn fault_of_blanks(alloc: Global, len: usize) -> Result<Option<ReadScriptFault>, Fail> {
-    let mut source = MemSource::new(blanks(alloc, len)?, MOST_BYTES, None);
-    Ok(read_script(alloc, &mut source).err())
+// The fault of a source of so many blanks.
+fn fault_of_blanks(alloc: Global, len: usize) -> Result<Option<ReadScriptFault>, AllocError> {
+    Ok(read_pieces(alloc, blanks(alloc, len)?, MOST_BYTES, None).err())
 }
 
 const TOO_LONG: ReadScriptFault = ReadScriptFault::Found(ScriptFault {

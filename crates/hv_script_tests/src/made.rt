@@ -1,6 +1,9 @@
 // Scripts of many bytes, and what is told of scripts.
+ghost use Rattle.std.specs.Prelude.{◌<◌};
+
+use hv_io::MemSource;
 use hv_model::{FaultName, Script, ScriptFault, Statement};
-use hv_script::{BytesFault, MOST_STATEMENTS, read_statements};
+use hv_script::{BytesFault, MOST_STATEMENTS, ReadScriptFault, read_script, read_statements};
 use std::alloc::{AllocError, Global};
 
 // The statements of a script of one session and one phase; none of any other.
@@ -17,6 +20,19 @@ pub fn is_fault(alloc: Global, text: &[u8], name: FaultName, byte: u32) -> bool 
         Err(BytesFault::Found(fault)) => fault == ScriptFault { name, byte },
         _ => false,
     }
+}
+
+// What is read of a source that gives at most `cut` bytes a call, and fails at the call that `fail` names.
+pub fn read_pieces(
+    alloc: Global,
+    bytes: Vec<u8>,
+    cut: usize,
+    fail: Option<u32>,
+) -> Result<Script, ReadScriptFault>
+    requires { 0 < cut }
+{
+    let mut source = MemSource::new(bytes, cut, fail);
+    read_script(alloc, &mut source)
 }
 
 // As many statements as a script has, with this behind them.
