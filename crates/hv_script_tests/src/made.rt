@@ -6,11 +6,11 @@ use hv_model::{FaultName, Script, ScriptFault, Statement};
 use hv_script::{BytesFault, MOST_STATEMENTS, ReadScriptFault, read_script, read_statements};
 use std::alloc::{AllocError, Global};
 
-// The statements of a script of one session and one phase; none of any other.
-pub fn statements(script: &Script) -> &[Statement] {
+// The statements of a script, where it has one session and one phase.
+pub fn statements(script: &Script) -> Option<&[Statement]> {
     match script.phases.as_slice() {
-        [phase] if script.sessions.len() == 1 => phase.as_slice(),
-        _ => &[],
+        [phase] if script.sessions.len() == 1 => Some(phase.as_slice()),
+        _ => None,
     }
 }
 

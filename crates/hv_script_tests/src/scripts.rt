@@ -15,10 +15,13 @@ fn put(alloc: Global, out: &mut Vec<u8>, statement: &Statement) -> Result<(), Al
     Ok(out.push(b']')?)
 }
 
-// Whether a script has these statements, each as its number, and its text and its lines in brackets.
+// Whether a script of one session and one phase has these statements, each as its number, and its text and its lines in brackets.
 pub fn has_statements(alloc: Global, script: &Script, want: &str) -> Result<bool, AllocError> {
+    let Some(all) = statements(script) else {
+        return Ok(false);
+    };
     let mut out = Vec::new(alloc);
-    for statement in statements(script) {
+    for statement in all {
         put(alloc, &mut out, statement)?;
     }
     Ok(out.as_slice() == want.as_bytes())
