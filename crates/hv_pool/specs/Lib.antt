@@ -1,0 +1,5 @@
+pub mod Key
+pub mod Slots
+pub mod Moves
+pub mod Made
+pub mod Shape

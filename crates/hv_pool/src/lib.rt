@@ -1,0 +1,15 @@
+//! A pool of page frames that several sessions share.
+//! Each frame stands once: it is free, or has the page of a key, or is being read into, or is in a hand.
+#![tactic(auto)]
+
+mod key;
+mod law;
+mod pool;
+mod seen;
+mod slot;
+
+pub use key::{PageKey, same};
+pub use law::pool_laws;
+pub use pool::{Pool, Unpooled};
+pub use seen::{Ask, Seen};
+pub use slot::{Held, Slot};

@@ -1,0 +1,412 @@
+// The pool.
+ghost use Rattle.std.specs.Prelude.{◌≡◌, ℕ, ◌+◌, ◌<◌, ◌≤◌, ◌^◌, List, [], map, length, IfSome, IfNone, IfOk, IfErr, IsSome, Some, None, get_or, true, ◌&&◌, if◌then◌else◌, IsPermutation, vec_capacity};
+ghost use Rattle.std.specs.List.{count_by, All, range_with_len};
+ghost use Rattle.hv_frames.specs.Frames.{AreAll};
+ghost use Rattle.hv_pool.specs.Made.{AreOfOne, IsMade, IsFilled, empty_slot, here};
+ghost use Rattle.hv_pool.specs.Shape.{HasRoom};
+ghost use Rattle.sha2.specs.Sha256.{sha256};
+ghost use Rattle.hv_pool.specs.Slots.{seen_at, under, is_open, is_reading, is_in_hand, is_cached, is_gone, stands, IsPool, IsAway};
+ghost use Rattle.hv_pool.specs.Moves.{Asks, answer_of, ComesBack, IsLost, Forgets, Takes, started_by, cached_as, freed, moved, forgotten};
+ghost use Rattle.hv_pool.specs.Key.{same_key};
+
+use crate::key::same;
+use crate::slot::{wait_less, wait_more};
+use crate::{Ask, Held, PageKey, Seen, Slot};
+use hv_frames::Frame;
+use hv_row::Digest;
+use std::alloc::{AllocError, Global};
+use std::marker::Model;
+use std::snapshot::Snapshot;
+
+/// Frames that several sessions share, each standing once.
+#[must_use]
+pub struct Pool {
+    // By the numbers of their frames.
+    slots: Vec<Slot>,
+    // How many of them have a frame that may be taken.
+    openings: u32,
+    // How many pages came back, and one more.
+    came: u64,
+    // The room for the list that `end` gives.
+    room: Vec<Frame>,
+    // The frames of `new`.
+    mark: Snapshot<Vec<Frame>>,
+}
+
+/// Want of memory, with the frames that a pool was to have.
+#[must_use]
+pub struct Unpooled {
+    pub frames: Vec<Frame>,
+}
+
+impl Model for Pool {
+    ghost use Rattle.hv_pool.specs.Slots.{Pooled};
+
+    ghost Value = { Pooled };
+
+    ghost use Rattle.hv_pool.specs.Shape.{IsInOrder, HasRoom};
+    ghost use Rattle.hv_pool.specs.Made.{owner_of};
+    ghost use Rattle.std.specs.Prelude.{vec_capacity};
+
+    ghost view = { λ p. record { owner = owner_of p.mark.value.items; slots = p.slots.items; came = p.came } };
+
+    ghost invariant = { λ p. IsInOrder (owner_of p.mark.value.items) p.slots.items p.came p.openings × HasRoom p.slots.items p.room.items (vec_capacity p.room) };
+}
+
+// The place that stands under the key.
+fn find_under(slots: &[Slot], key: &PageKey) -> Option<usize>
+    ensures found { IfSome result (λ n. (n < length slots.now) × ((d : Slot) → under key.now (get_or slots.now n d) ≡ true)) }
+    ensures none { IfNone result (count_by (under key.now) slots.now ≡ 0) }
+{
+    for n in 0..slots.len() {
+        if slots[n].is_under(key) {
+            return Some(n);
+        }
+    }
+    None
+}
+
+// The place that may be taken first: the one that came back longest ago.
+fn find_open(slots: &[Slot]) -> Option<usize>
+    ensures found { IfSome result (λ n. (n < length slots.now) × ((d : Slot) → (is_open (get_or slots.now n d) ≡ true) × All (λ s. is_open s ≡ true → (get_or slots.now n d).came ≤ s.came) slots.now)) }
+    ensures none { IfNone result (count_by is_open slots.now ≡ 0) }
+{
+    let mut best: Option<usize> = None;
+    for n in 0..slots.len() {
+        if !slots[n].is_open() {
+            continue;
+        }
+        if let Some(b) = best {
+            if slots[b].came <= slots[n].came {
+                continue;
+            }
+        }
+        best = Some(n);
+    }
+    best
+}
+
+// A frame that stands under a key is asked for, for a session.
+fn take_standing(slot: &mut Slot, who: u32) -> Ask
+    requires who { who < 64 }
+    requires stands { stands slot.old.held ≡ true }
+    requires here { is_cached slot.old.held ≡ true → IsSome slot.old.frame }
+    ensures { Takes slot.old who result slot.new }
+{
+    match slot.held {
+        Held::Free => unreachable!(),
+        Held::Cached => {
+            let Some(frame) = slot.frame.take() else {
+                unreachable!();
+            };
+            slot.held = Held::InHand { who };
+            forget_at(slot, who);
+            Ask::Hit(frame)
+        }
+        Held::Reading { who: other } => {
+            slot.waits = wait_more(slot.waits, who);
+            Ask::Reading { who: other }
+        }
+        Held::InHand { who: other } => Ask::Busy { who: other },
+    }
+}
+
+// The frame of a place, into which the page of the key is to be read for a session.
+fn start_in(slot: &mut Slot, key: &PageKey, who: u32) -> Frame
+    requires who { who < 64 }
+    requires here { IsSome slot.old.frame }
+    ensures frame { slot.old.frame ≡ Some result }
+    ensures started { slot.new ≡ started_by who key.now slot.old }
+{
+    let Some(frame) = slot.frame.take() else {
+        unreachable!();
+    };
+    slot.key = *key;
+    slot.held = Held::Reading { who };
+    slot.came = 0;
+    slot.waits = wait_more(0, who);
+    frame
+}
+
+// The page of the key landed in the frame of a place.
+fn land_at(slot: &mut Slot, key: &PageKey, frame: Frame, came: u64)
+    requires { slot.old.frame ≡ None }
+    ensures { slot.new ≡ (if is_reading slot.old.held && same_key key.now slot.old.key then cached_as came frame slot.old else freed frame slot.old) }
+{
+    if matches!(slot.held, Held::Reading { .. }) && same(key, &slot.key) {
+        return cache_at(slot, frame, came);
+    }
+    free_at(slot, frame);
+}
+
+// The frame of a place comes back from a hand, with the page of the key.
+fn back_at(slot: &mut Slot, key: &PageKey, frame: Frame, came: u64)
+    requires { slot.old.frame ≡ None }
+    ensures { slot.new ≡ (if is_in_hand slot.old.held && same_key key.now slot.old.key then cached_as came frame slot.old else freed frame slot.old) }
+{
+    if matches!(slot.held, Held::InHand { .. }) && same(key, &slot.key) {
+        return cache_at(slot, frame, came);
+    }
+    free_at(slot, frame);
+}
+
+fn cache_at(slot: &mut Slot, frame: Frame, came: u64)
+    requires { slot.old.frame ≡ None }
+    ensures { slot.new ≡ cached_as came frame slot.old }
+{
+    fill(slot, frame);
+    slot.held = Held::Cached;
+    slot.came = came;
+}
+
+fn free_at(slot: &mut Slot, frame: Frame)
+    requires { slot.old.frame ≡ None }
+    ensures { slot.new ≡ freed frame slot.old }
+{
+    fill(slot, frame);
+    slot.held = Held::Free;
+    slot.came = 0;
+    slot.waits = 0;
+}
+
+fn fill(slot: &mut Slot, frame: Frame)
+    requires { slot.old.frame ≡ None }
+    ensures { slot.new ≡ moved slot.old slot.old.key slot.old.held slot.old.came slot.old.waits (Some frame) }
+{
+    let none = slot.frame.replace(frame);
+    let None = none else {
+        unreachable!();
+    };
+}
+
+// How many frames of this place may be taken.
+fn openings_of(slot: &Slot) -> u32
+    ensures { result ≡ (if is_open slot.now then 1 else 0) }
+{
+    u32::from(slot.is_open())
+}
+
+impl Pool {
+    /// A pool of these frames, none of which has a page yet.
+    /// It takes all the memory that it ever needs; where memory is wanting, the frames come back.
+    pub fn new(alloc: Global, frames: Vec<Frame>) -> Result<Pool, Unpooled>
+        requires { AreOfOne frames.items }
+        ensures made { IfOk result (λ pool. IsMade frames.items pool) }
+        ensures pool { IfOk result (λ pool. IsPool pool) }
+        ensures given_back { IfErr result (λ unpooled. unpooled.frames ≡ frames) }
+    {
+        let mark = Snapshot::of(&frames);
+        let Ok(mut slots) = empty_slots(alloc, frames.len()) else {
+            return Err(Unpooled { frames });
+        };
+        let mut room = frames;
+        fill_all(slots.as_mut_slice(), &mut room);
+        Ok(Pool {
+            openings: slots.len() as u32,
+            slots,
+            came: 1,
+            room,
+            mark,
+        })
+    }
+
+    /// What an ask for the page would answer.
+    pub fn look(&self, key: &PageKey) -> Seen
+        ensures told { result ≡ seen_at self.now key.now }
+        ensures pool { IsPool self.now }
+    {
+        match find_under(self.slots.as_slice(), key) {
+            Some(n) => match self.slots[n].held {
+                Held::Free | Held::Cached => Seen::Hit,
+                Held::Reading { .. } => Seen::Reading,
+                Held::InHand { .. } => Seen::Busy,
+            },
+            None if self.openings > 0 => Seen::Start,
+            None => Seen::Full,
+        }
+    }
+
+    /// Asks for a page, for a session.
+    pub fn ask(&mut self, key: &PageKey, who: u32) -> Ask
+        requires { who < 64 }
+        ensures told { answer_of result ≡ seen_at self.old key.now }
+        ensures change { Asks self.old key.now who result self.new }
+        ensures pool { IsPool self.old }
+    {
+        if let Some(n) = find_under(self.slots.as_slice(), key) {
+            self.openings -= openings_of(&self.slots[n]);
+            return take_standing(&mut self.slots[n], who);
+        }
+        match find_open(self.slots.as_slice()) {
+            Some(n) => {
+                self.openings -= 1;
+                Ask::Start(start_in(&mut self.slots[n], key, who))
+            }
+            None => Ask::Full {
+                frames: self.slots.len() as u32,
+            },
+        }
+    }
+
+    /// The page of the key landed in the frame.
+    pub fn landed(&mut self, key: &PageKey, frame: Frame)
+        requires away { IsAway self.old frame }
+        requires digest { sha256 frame.bytes ≡ key.now.digest }
+        ensures change { ComesBack is_reading self.old key.now frame self.new }
+        ensures pool { IsPool self.old }
+    {
+        let n = frame.number() as usize;
+        land_at(&mut self.slots[n], key, frame, self.came);
+        self.openings += openings_of(&self.slots[n]);
+        self.came = self.came.saturating_add(1);
+    }
+
+    /// The frame of a page comes back from a hand.
+    pub fn back(&mut self, key: &PageKey, frame: Frame)
+        requires away { IsAway self.old frame }
+        requires digest { sha256 frame.bytes ≡ key.now.digest }
+        ensures change { ComesBack is_in_hand self.old key.now frame self.new }
+        ensures pool { IsPool self.old }
+    {
+        let n = frame.number() as usize;
+        back_at(&mut self.slots[n], key, frame, self.came);
+        self.openings += openings_of(&self.slots[n]);
+        self.came = self.came.saturating_add(1);
+    }
+
+    /// The frame comes back without a page; whoever waits for its key waits no more.
+    pub fn lost(&mut self, _key: &PageKey, frame: Frame)
+        requires away { IsAway self.old frame }
+        ensures change { IsLost self.old frame self.new }
+        ensures pool { IsPool self.old }
+    {
+        let n = frame.number() as usize;
+        free_at(&mut self.slots[n], frame);
+        self.openings += openings_of(&self.slots[n]);
+    }
+    /// Ends all waits of a session.
+    pub fn forget(&mut self, who: u32)
+        requires { who < 64 }
+        ensures change { Forgets self.old who self.new }
+        ensures pool { IsPool self.old }
+    {
+        self.openings = forget_all(self.slots.as_mut_slice(), who);
+    }
+
+    /// Gives all frames, where none is away.
+    pub fn end(self) -> Vec<Frame>
+        requires { count_by is_gone self.slots ≡ 0 }
+        ensures here { IsPermutation (here self.slots) result.items }
+        ensures all { AreAll (record { name = self.owner; count = length self.slots }) result.items }
+        ensures pool { IsPool self }
+    {
+        let Pool {
+            slots,
+            openings: _,
+            came: _,
+            room,
+            mark,
+        } = self;
+        drop(mark);
+        frames_of(slots, room)
+    }
+}
+
+// Places without a frame, numbered from 0.
+fn empty_slots(alloc: Global, count: usize) -> Result<Vec<Slot>, AllocError>
+    requires { count < 2 ^ 32 }
+    ensures { IfOk result (λ slots. slots.items ≡ map empty_slot (range_with_len 0 count)) }
+{
+    let mut slots = Vec::with_capacity(alloc, count)?;
+    for number in 0..count as u32 {
+        slots.push_reserved(empty_slot(number));
+    }
+    Ok(slots)
+}
+
+// A place without a frame.
+fn empty_slot(number: u32) -> Slot
+    ensures { result ≡ empty_slot number }
+{
+    Slot {
+        number,
+        key: PageKey {
+            chunk: 0,
+            page: 0,
+            digest: Digest::new([0; 32]),
+        },
+        held: Held::Free,
+        came: 0,
+        waits: 0,
+        frame: None,
+    }
+}
+
+// Puts each frame into the place with its number.
+fn fill_all(slots: &mut [Slot], frames: &mut Vec<Frame>)
+    requires all { AreOfOne frames.old.items }
+    requires slots { slots.old ≡ map empty_slot (range_with_len 0 (length frames.old.items)) }
+    ensures filled { IsFilled frames.old.items slots.new }
+    ensures none { frames.new.items ≡ [] }
+    ensures room { vec_capacity frames.new ≡ vec_capacity frames.old }
+{
+    while let Some(frame) = frames.pop() {
+        let n = frame.number() as usize;
+        fill(&mut slots[n], frame);
+    }
+}
+
+// Ends all waits of a session, and counts the frames that may be taken then.
+fn forget_all(slots: &mut [Slot], who: u32) -> u32
+    requires who { who < 64 }
+    requires short { length slots.old < 2 ^ 32 }
+    ensures slots { slots.new ≡ map (forgotten who) slots.old }
+    ensures openings { result ≡ count_by is_open slots.new }
+{
+    let mut openings = 0;
+    for n in 0..slots.len() {
+        forget_at(&mut slots[n], who);
+        openings += openings_of(&slots[n]);
+    }
+    openings
+}
+
+// Ends the wait of a session for the page of a place.
+fn forget_at(slot: &mut Slot, who: u32)
+    requires { who < 64 }
+    ensures { slot.new ≡ forgotten who slot.old }
+{
+    slot.waits = wait_less(slot.waits, who);
+}
+
+// The frames of places that all have one, put into a list with room for them.
+fn frames_of(mut slots: Vec<Slot>, mut room: Vec<Frame>) -> Vec<Frame>
+    requires home { All (λ s. IsSome s.frame) slots.items }
+    requires room { HasRoom slots.items room.items (vec_capacity room) }
+    ensures { IsPermutation (here slots.items) result.items }
+{
+    while let Some(slot) = slots.pop() {
+        room.push_reserved(frame_of(slot));
+    }
+    slots.destroy_empty();
+    room
+}
+
+// The frame of a place.
+fn frame_of(slot: Slot) -> Frame
+    requires { IsSome slot.frame }
+    ensures { slot.frame ≡ Some result }
+{
+    let Slot {
+        number: _,
+        key: _,
+        held: _,
+        came: _,
+        waits: _,
+        frame,
+    } = slot;
+    match frame {
+        Some(frame) => frame,
+        None => unreachable!(),
+    }
+}

@@ -1,0 +1,71 @@
+// A frame's place in a pool.
+ghost use Rattle.std.specs.Prelude.{◌≡◌, ◌<◌, ◌≤◌};
+ghost use Rattle.hv_pool.specs.Slots.{under, is_open, with_wait, without_wait};
+
+use crate::PageKey;
+use crate::key::same;
+use hv_frames::Frame;
+
+/// Where a frame is.
+#[derive(Clone, Copy, Debug)]
+pub enum Held {
+    /// It has no page.
+    Free,
+    /// It has the page of its key.
+    Cached,
+    /// The page of its key is being read into it, for that session.
+    Reading { who: u32 },
+    /// It has the page of its key, and that session has it in hand.
+    InHand { who: u32 },
+}
+
+/// A frame's place, under the number of the frame.
+pub struct Slot {
+    pub number: u32,
+    pub key: PageKey,
+    pub held: Held,
+    /// When its page came back, counted in pages that came back.
+    pub came: u64,
+    /// The sessions that wait for its key, a bit each.
+    pub waits: u64,
+    pub frame: Option<Frame>,
+}
+
+impl Slot {
+    /// Whether it stands under the key.
+    pub fn is_under(&self, key: &PageKey) -> bool
+        ensures { result ≡ under key.now self.now }
+    {
+        match self.held {
+            Held::Free => false,
+            Held::Cached | Held::Reading { .. } | Held::InHand { .. } => same(key, &self.key),
+        }
+    }
+
+    /// Whether its frame may be taken.
+    pub fn is_open(&self) -> bool
+        ensures { result ≡ is_open self.now }
+    {
+        match self.held {
+            Held::Free => true,
+            Held::Cached => self.waits == 0,
+            Held::Reading { .. } | Held::InHand { .. } => false,
+        }
+    }
+}
+
+/// The waits with one more session's.
+pub fn wait_more(waits: u64, who: u32) -> u64
+    requires { who < 64 }
+    ensures { result ≡ with_wait who waits }
+{
+    waits | 1 << who
+}
+
+/// The waits without a session's.
+pub fn wait_less(waits: u64, who: u32) -> u64
+    requires { who < 64 }
+    ensures { result ≡ without_wait who waits }
+{
+    waits & !(1 << who)
+}
