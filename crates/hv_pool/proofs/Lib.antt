@@ -1,3 +1,4 @@
 pub mod Places
 pub mod Made
 pub mod Laws
+pub mod Indexed

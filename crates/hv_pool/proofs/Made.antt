@@ -203,7 +203,7 @@ all_pass : {X : Type 0} (test : X → Bool) (xs : List X) → All (λ x. test x 
 all_pass test [] all = refl
 all_pass {X} test (x ∷ xs) all = omega (arith, sum_by-cons (λ y. cond (test y) 1 0) x xs, ap {B = ℕ} (λ z. cond z 1 0) (All-head (λ (y : X). test y ≡ true) x xs all), all_pass test xs (All-tail (λ (y : X). test y ≡ true) x xs all))
 
-none_pass : {X : Type 0} (test : X → Bool) (xs : List X) → All (λ x. test x ≡ false) xs → count_by test xs ≡ 0
+pub none_pass : {X : Type 0} (test : X → Bool) (xs : List X) → All (λ x. test x ≡ false) xs → count_by test xs ≡ 0
 none_pass test [] all = refl
 none_pass {X} test (x ∷ xs) all = omega (arith, sum_by-cons (λ y. cond (test y) 1 0) x xs, ap {B = ℕ} (λ z. cond z 1 0) (All-head (λ (y : X). test y ≡ false) x xs all), none_pass test xs (All-tail (λ (y : X). test y ≡ false) x xs all))
 

@@ -46,7 +46,7 @@ pub both : (a b : Bool) → a && b ≡ true → (a ≡ true) × (b ≡ true)
 both true b e = (refl, e)
 both false b e = absurd (true≢false (sym e))
 
-key_alone : (a b : PageKey) → same_key a b ≡ true → a ≡ b
+pub key_alone : (a b : PageKey) → same_key a b ≡ true → a ≡ b
 key_alone a b e =
     let p = both (nat_eq a.chunk b.chunk) _ e in
     let q = both (nat_eq a.page b.page) _ p.1 in

@@ -3,3 +3,4 @@ pub mod Slots
 pub mod Moves
 pub mod Made
 pub mod Shape
+pub mod Index

@@ -2,6 +2,7 @@
 //! Each frame stands once: it is free, or has the page of a key, or is being read into, or is in a hand.
 #![tactic(auto)]
 
+mod index;
 mod key;
 mod law;
 mod pool;

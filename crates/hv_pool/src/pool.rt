@@ -9,6 +9,7 @@ ghost use Rattle.hv_pool.specs.Slots.{seen_at, under, is_open, is_reading, is_in
 ghost use Rattle.hv_pool.specs.Moves.{Asks, answer_of, ComesBack, IsLost, Forgets, Takes, started_by, cached_as, freed, moved, forgotten};
 ghost use Rattle.hv_pool.specs.Key.{same_key};
 
+use crate::index::{empty_cells, find_under, reindex};
 use crate::key::same;
 use crate::slot::{wait_less, wait_more};
 use crate::{Ask, Held, PageKey, Seen, Slot};
@@ -23,6 +24,9 @@ use std::snapshot::Snapshot;
 pub struct Pool {
     // By the numbers of their frames.
     slots: Vec<Slot>,
+    // Where they are found by their keys, and whether a bucket of these cells overflowed.
+    cells: Vec<u32>,
+    crowded: bool,
     // How many of them have a frame that may be taken.
     openings: u32,
     // How many pages came back, and one more.
@@ -45,25 +49,13 @@ impl Model for Pool {
     ghost Value = { Pooled };
 
     ghost use Rattle.hv_pool.specs.Shape.{IsInOrder, HasRoom};
+    ghost use Rattle.hv_pool.specs.Index.{IsIndexed};
     ghost use Rattle.hv_pool.specs.Made.{owner_of};
     ghost use Rattle.std.specs.Prelude.{vec_capacity};
 
     ghost view = { λ p. record { owner = owner_of p.mark.value.items; slots = p.slots.items; came = p.came } };
 
-    ghost invariant = { λ p. IsInOrder (owner_of p.mark.value.items) p.slots.items p.came p.openings × HasRoom p.slots.items p.room.items (vec_capacity p.room) };
-}
-
-// The place that stands under the key.
-fn find_under(slots: &[Slot], key: &PageKey) -> Option<usize>
-    ensures found { IfSome result (λ n. (n < length slots.now) × ((d : Slot) → under key.now (get_or slots.now n d) ≡ true)) }
-    ensures none { IfNone result (count_by (under key.now) slots.now ≡ 0) }
-{
-    for n in 0..slots.len() {
-        if slots[n].is_under(key) {
-            return Some(n);
-        }
-    }
-    None
+    ghost invariant = { λ p. IsInOrder (owner_of p.mark.value.items) p.slots.items p.came p.openings × HasRoom p.slots.items p.room.items (vec_capacity p.room) × IsIndexed p.cells.items p.crowded p.slots.items };
 }
 
 // The place that may be taken first: the one that came back longest ago.
@@ -196,6 +188,9 @@ impl Pool {
         ensures given_back { IfErr result (λ unpooled. unpooled.frames ≡ frames) }
     {
         let mark = Snapshot::of(&frames);
+        let Ok(cells) = empty_cells(alloc, frames.len()) else {
+            return Err(Unpooled { frames });
+        };
         let Ok(mut slots) = empty_slots(alloc, frames.len()) else {
             return Err(Unpooled { frames });
         };
@@ -204,6 +199,8 @@ impl Pool {
         Ok(Pool {
             openings: slots.len() as u32,
             slots,
+            cells,
+            crowded: false,
             came: 1,
             room,
             mark,
@@ -215,7 +212,12 @@ impl Pool {
         ensures told { result ≡ seen_at self.now key.now }
         ensures pool { IsPool self.now }
     {
-        match find_under(self.slots.as_slice(), key) {
+        match find_under(
+            self.slots.as_slice(),
+            self.cells.as_slice(),
+            self.crowded,
+            key,
+        ) {
             Some(n) => match self.slots[n].held {
                 Held::Free | Held::Cached => Seen::Hit,
                 Held::Reading { .. } => Seen::Reading,
@@ -233,13 +235,25 @@ impl Pool {
         ensures change { Asks self.old key.now who result self.new }
         ensures pool { IsPool self.old }
     {
-        if let Some(n) = find_under(self.slots.as_slice(), key) {
+        if let Some(n) = find_under(
+            self.slots.as_slice(),
+            self.cells.as_slice(),
+            self.crowded,
+            key,
+        ) {
             self.openings -= openings_of(&self.slots[n]);
             return take_standing(&mut self.slots[n], who);
         }
         match find_open(self.slots.as_slice()) {
             Some(n) => {
                 self.openings -= 1;
+                self.crowded = reindex(
+                    self.cells.as_mut_slice(),
+                    self.crowded,
+                    self.slots.as_slice(),
+                    n,
+                    key,
+                );
                 Ask::Start(start_in(&mut self.slots[n], key, who))
             }
             None => Ask::Full {
@@ -302,6 +316,8 @@ impl Pool {
     {
         let Pool {
             slots,
+            cells: _,
+            crowded: _,
             openings: _,
             came: _,
             room,

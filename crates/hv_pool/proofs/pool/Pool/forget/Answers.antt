@@ -6,6 +6,8 @@ use Rattle.hv_pool.specs.Slots.{is_open}
 use Rattle.hv_pool.specs.Moves.{forgotten}
 use Rattle.hv_pool.specs.Made.{owner_of}
 use Rattle.hv_pool.specs.Shape.{IsInOrder}
+use Rattle.hv_pool.specs.Index.{IsIndexed}
+use Rattle.hv_pool.proofs.Indexed.{forget_index}
 use Rattle.hv_pool.proofs.Made.{forgets_order}
 use Rattle.hv_pool.proofs.pool.Pool.forget.Goals as goal
 
@@ -20,4 +22,5 @@ invariant_of-self c =
       subst (λ (l : List Slot). IsInOrder (owner_of c.self.inside.mark.value.items) l c.self.inside.came c.forget_all-self-inside.result) back
           (forgets_order _ slots c.self.inside.came c.self.inside.openings c.forget_all-self-inside.result c.args.who c.self.invariant.0 opens),
       record { none = c.self.invariant.1.none; wide = omega (arith, c.self.invariant.1.wide, ap length back, length-map slots (forgotten c.args.who)) },
+      subst (λ (l : List Slot). IsIndexed c.self.inside.cells.items c.self.inside.crowded l) back (forget_index c.self.inside.cells.items c.self.inside.crowded slots c.args.who c.self.invariant.2),
     )

@@ -7,6 +7,7 @@ use Rattle.hv_pool.specs.Slots.{Pooled, is_away, is_open, is_reading}
 use Rattle.hv_pool.specs.Moves.{ComesBack}
 use Rattle.hv_pool.proofs.Places.{away_at, at_place, no_slot, return_order, returns_to}
 use Rattle.hv_pool.specs.Made.{owner_of}
+use Rattle.hv_pool.proofs.Indexed.{return_index}
 use Rattle.hv_pool.proofs.pool.Pool.landed.Goals as goal
 
 pub index_mut-requires : goal.index_mut-requires
@@ -52,6 +53,7 @@ invariant_of-self c =
     let opens : c.self.inside.openings + c.openings_of.result ≡ c.self.inside.openings + cond (is_open c.land_at.new.slot) 1 0 = ap (λ (k : ℕ). c.self.inside.openings + k) (c.openings_of.ensures ∙ ap {B = ℕ} (λ z. cond (is_open z) 1 0) there) in (
       return_order _ slots c.self.inside.came _ c.self.inside.openings _ n is_reading c.args.key.now c.args.frame c.index_mut.result.now c.land_at.new.slot c.self.invariant.0 h c.index_mut.ensures.value c.land_at.ensures own (sym c.number-n.ensures) c.requires.digest opens,
       record { none = c.self.invariant.1.none; wide = omega (arith, c.self.invariant.1.wide, length-set slots n c.land_at.new.slot) },
+      return_index c.self.inside.cells.items c.self.inside.crowded _ slots c.self.inside.came c.self.inside.openings n is_reading c.args.key.now c.args.frame c.index_mut.result.now c.land_at.new.slot c.self.invariant.2 c.self.invariant.0 h c.index_mut.ensures.value c.land_at.ensures,
     )
 
 pub returns-clause-change : goal.returns-clause-change

@@ -7,6 +7,7 @@ use Rattle.hv_pool.specs.Slots.{Pooled, is_away, is_open}
 use Rattle.hv_pool.specs.Moves.{IsLost}
 use Rattle.hv_pool.proofs.Places.{away_at, at_place, no_slot, lost_order, lost_to}
 use Rattle.hv_pool.specs.Made.{owner_of}
+use Rattle.hv_pool.proofs.Indexed.{lost_index}
 use Rattle.hv_pool.proofs.pool.Pool.lost.Goals as goal
 
 pub index_mut-requires : goal.index_mut-requires
@@ -52,6 +53,7 @@ invariant_of-self c =
     let opens : c.self.inside.openings + c.openings_of.result ≡ c.self.inside.openings + cond (is_open c.free_at.new.slot) 1 0 = ap (λ (k : ℕ). c.self.inside.openings + k) (c.openings_of.ensures ∙ ap {B = ℕ} (λ z. cond (is_open z) 1 0) there) in (
       lost_order _ slots c.self.inside.came _ c.self.inside.openings _ n c.args.frame c.index_mut.result.now c.free_at.new.slot c.self.invariant.0 h c.index_mut.ensures.value c.free_at.ensures own (sym c.number-n.ensures) opens,
       record { none = c.self.invariant.1.none; wide = omega (arith, c.self.invariant.1.wide, length-set slots n c.free_at.new.slot) },
+      lost_index c.self.inside.cells.items c.self.inside.crowded _ slots c.self.inside.came c.self.inside.openings n c.args.frame c.index_mut.result.now c.free_at.new.slot c.self.invariant.2 c.self.invariant.0 h c.index_mut.ensures.value c.free_at.ensures,
     )
 
 pub returns-clause-change : goal.returns-clause-change
