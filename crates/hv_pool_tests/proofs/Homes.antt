@@ -13,7 +13,9 @@ use Rattle.hv_pool.specs.declared.slot.Slot.{Slot}
 use Rattle.hv_pool.specs.Key.{same_key}
 use Rattle.hv_pool.specs.Slots.{Pooled, IsPool, IsAway, is_free, is_cached, is_reading, is_in_hand, is_open, is_gone, is_away, is_numbered}
 use Rattle.hv_pool.specs.Moves.{Moves, Hits, Starts, Joins, ComesBack, Forgets, cached_as, freed, forgotten}
+use Rattle.hv_pool.specs.Made.{IsMade}
 use Rattle.hv_pool.proofs.Laws.{moves_weigh}
+use Rattle.hv_pool.proofs.Made.{none_pass}
 use Rattle.hv_pool.proofs.Places.{weighed, both}
 use Rattle.hv_pool_tests.specs.Home.{AllHome, SameFrames}
 
@@ -36,17 +38,25 @@ came_from mid frame s rest pool away number were = go (is_away frame.number s) r
   where
     go : (b : Bool) → is_away frame.number s ≡ b → is_gone s ≡ true
     go true e = (both (nat_eq s.number frame.number) (is_gone s) e).1
-    go false e = absurd (omega (arith, away.away, weighed (λ x. cond (is_away frame.number x) 1 0) mid.slots s rest were, ap {B = ℕ} (λ z. cond z 1 0) e,
-      pool.numbers frame.number, weighed (λ x. cond (is_numbered frame.number x) 1 0) mid.slots s rest were, ap {B = ℕ} (λ z. cond z 1 0) (eq-eqb s.number frame.number number),
-      fewer (is_away frame.number) (is_numbered frame.number) rest (λ x q. (both (nat_eq x.number frame.number) (is_gone x) q).0)))
+    go false e = absurd (omega (
+      arith,
+      away.away,
+      weighed (λ x. cond (is_away frame.number x) 1 0) mid.slots s rest were,
+      ap {B = ℕ} (λ z. cond z 1 0) e,
+      pool.numbers frame.number,
+      weighed (λ x. cond (is_numbered frame.number x) 1 0) mid.slots s rest were,
+      ap {B = ℕ} (λ z. cond z 1 0) (eq-eqb s.number frame.number number),
+      fewer (is_away frame.number) (is_numbered frame.number) rest (λ x q. (both (nat_eq x.number frame.number) (is_gone x) q).0),
+    ))
 
 comes_home : (away : Held → Bool) (old mid new : Pooled) (key : PageKey) (frame : Framed) → IsPool mid → IsAway mid frame → ComesBack away mid key frame new → count_by is_gone mid.slots ≡ 1 → SameFrames old mid → AllHome new × SameFrames old new
 comes_home away old mid new key frame pool is_out back gone kept =
     let s = back.slot in
     let m = moves_weigh mid new s _ back.change (λ x. cond (is_gone x) 1 0) in
-    let f = moved_frames mid new s _ back.change in
-    (omega (arith, m, gone, ap {B = ℕ} (λ z. cond z 1 0) (came_from mid frame s back.change.rest pool is_out back.number back.change.were), home (away s.held && same_key key s.key)),
-      record { owner = f.owner ∙ kept.owner; count = f.count ∙ kept.count })
+    let f = moved_frames mid new s _ back.change in (
+      omega (arith, m, gone, ap {B = ℕ} (λ z. cond z 1 0) (came_from mid frame s back.change.rest pool is_out back.number back.change.were), home (away s.held && same_key key s.key)),
+      record { owner = f.owner ∙ kept.owner; count = f.count ∙ kept.count },
+    )
   where
     home : (b : Bool) → one (is_gone (if b then cached_as mid.came frame back.slot else freed frame back.slot)) ≡ 0
     home true = refl
@@ -55,8 +65,8 @@ comes_home away old mid new key frame pool is_out back gone kept =
 pub hit_home : (old mid new : Pooled) (key : PageKey) (who : ℕ) (frame : Framed) → AllHome old → IsPool mid → Hits old key who frame mid → ComesBack is_in_hand mid key frame new → AllHome new × SameFrames old new
 hit_home old mid new key who frame home pool hit back =
     comes_home is_in_hand old mid new key frame pool hit.away back
-      (omega (arith, home, moves_weigh old mid hit.slot _ hit.change (λ x. cond (is_gone x) 1 0), ap {B = ℕ} (λ h. cond (is_reading h || is_in_hand h) 1 0) hit.is))
-      (moved_frames old mid hit.slot _ hit.change)
+    (omega (arith, home, moves_weigh old mid hit.slot _ hit.change (λ x. cond (is_gone x) 1 0), ap {B = ℕ} (λ h. cond (is_reading h || is_in_hand h) 1 0) hit.is))
+    (moved_frames old mid hit.slot _ hit.change)
 
 open_home : (s : Slot) → is_open s ≡ true → is_gone s ≡ false
 open_home s e = go s.held refl
@@ -70,8 +80,8 @@ open_home s e = go s.held refl
 pub start_home : (old mid new : Pooled) (key : PageKey) (who : ℕ) (frame other : Framed) → AllHome old → IsPool mid → Starts old key who frame mid → IsAway mid other → ComesBack is_reading mid key other new → AllHome new × SameFrames old new
 start_home old mid new key who frame other home pool start away back =
     comes_home is_reading old mid new key other pool away back
-      (omega (arith, home, moves_weigh old mid start.slot _ start.change (λ x. cond (is_gone x) 1 0), ap {B = ℕ} (λ z. cond z 1 0) (open_home start.slot start.is)))
-      (moved_frames old mid start.slot _ start.change)
+    (omega (arith, home, moves_weigh old mid start.slot _ start.change (λ x. cond (is_gone x) 1 0), ap {B = ℕ} (λ z. cond z 1 0) (open_home start.slot start.is)))
+    (moved_frames old mid start.slot _ start.change)
 
 pub join_home : (old new : Pooled) (key : PageKey) (who other : ℕ) → AllHome old → Joins old key who other new → AllHome new × SameFrames old new
 join_home old new key who other home join =
@@ -82,6 +92,11 @@ gone_forgotten who [] = refl
 gone_forgotten who (x ∷ xs) = omega (arith, gone_forgotten who xs, sum_by-cons (λ s. cond (is_gone s) 1 0) x xs, sum_by-cons (λ s. cond (is_gone s) 1 0) (forgotten who x) (map (forgotten who) xs))
 
 pub forget_home : (old new : Pooled) (who : ℕ) → AllHome old → Forgets old who new → AllHome new × SameFrames old new
-forget_home old new who home forgets =
-    (omega (arith, home, gone_forgotten who old.slots, ap (count_by is_gone) forgets.slots),
-      record { owner = forgets.owner; count = ap length forgets.slots ∙ length-map old.slots (forgotten who) })
+forget_home old new who home forgets = (
+  omega (arith, home, gone_forgotten who old.slots, ap (count_by is_gone) forgets.slots),
+  record { owner = forgets.owner; count = ap length forgets.slots ∙ length-map old.slots (forgotten who) },
+)
+
+-- in a pool that is made no frame is away
+pub made_home : (frames : List Framed) (p : Pooled) → IsMade frames p → AllHome p
+made_home frames p made = none_pass is_gone p.slots (λ n d within. ap (λ h. is_reading h || is_in_hand h) (made.filled.fresh n d within).held)

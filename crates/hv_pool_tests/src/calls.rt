@@ -1,32 +1,35 @@
-// Calls on a pool of three frames by two sessions, held against a plain pool after each call.
-ghost use Rattle.std.specs.Prelude.{◌≡◌, ◌<◌, length};
+// Random calls on a pool of three frames by some sessions, held against a plain pool after each call.
+ghost use Rattle.std.specs.Prelude.{◌≡◌, ◌<◌, ◌≤◌, length};
 ghost use Rattle.sha2.specs.Sha256.{sha256};
 ghost use Rattle.hv_pool.specs.Slots.{IsPool};
 ghost use Rattle.hv_pool_tests.specs.Home.{AllHome, SameFrames};
 
 use crate::plain::Plain;
 use hv_frames::{FRAME_BYTES, Frame, make};
-use hv_page::digest;
 use hv_pool::{Ask, PageKey, Pool, Seen, Unpooled};
+use hv_row::Digest;
+use rand_core::SeedableRng;
+use rand_core::utils::NextWord;
+use rand_pcg::Pcg32;
+use sha2::Sha256;
 use std::alloc::{AllocError, Global};
 use std::test::Fail;
 
 // A call of a session: a page to read, or no page where it waits for nothing more.
 #[derive(Drop)]
 struct Call {
-    session: u8,
+    session: u32,
     page: Option<u8>,
 }
 
-// The key of a page that is full of its number.
-fn key_of(page: &[u8], number: u8) -> PageKey
-    requires { length page.now ≡ 4096 }
-    ensures { result.digest ≡ sha256 page.now }
+// The key of a page by its number. All pages have the same bytes, so that their digest is taken once.
+fn key_of(number: u8, digest: &Digest) -> PageKey
+    ensures { result.digest ≡ digest.now }
 {
     PageKey {
         chunk: 7,
         page: u32::from(number),
-        digest: digest(page),
+        digest: *digest,
     }
 }
 
@@ -69,82 +72,101 @@ fn written(frame: Frame, page: &[u8]) -> Frame
 // How many pages the sessions read.
 const PAGES: u8 = 8;
 
+// How many calls are made.
+const CALLS: u32 = 100_000;
+
 // Makes one call on both pools, and tells whether the same is seen of the page.
-fn call_both(pool: &mut Pool, plain: &mut Plain, call: &Call) -> bool
-    requires session { call.now.session < 2 }
+fn call_both(pool: &mut Pool, plain: &mut Plain, page: &[u8], digest: &Digest, call: &Call) -> bool
+    requires session { call.now.session < 64 }
+    requires page { length page.now ≡ 4096 }
+    requires digest { sha256 page.now ≡ digest.now }
     requires home { AllHome pool.old }
     ensures home { AllHome pool.new }
     ensures frames { SameFrames pool.old pool.new }
 {
     let session = call.session;
     let Some(number) = call.page else {
-        pool.forget(u32::from(session));
+        pool.forget(session);
         plain.forget(session);
         return true;
     };
-    let page = [number; FRAME_BYTES];
-    let key = key_of(&page, number);
+    let key = key_of(number, digest);
     let expected = plain.look(number);
-    let seen = read(pool, &key, &page, u32::from(session));
+    let seen = read(pool, &key, page, session);
     plain.read(number, session);
     seen == expected
 }
 
 // Whether the same is seen of each page in both pools.
-fn agree(pool: &Pool, plain: &Plain, keys: &[PageKey]) -> bool {
+fn agree(pool: &Pool, plain: &Plain, digest: &Digest) -> bool {
     for number in 0..PAGES {
-        let Some(key) = keys.get(usize::from(number)) else {
-            return false;
-        };
-        if pool.look(key) != plain.look(number) {
+        if pool.look(&key_of(number, digest)) != plain.look(number) {
             return false;
         }
     }
     true
 }
 
-// The calls in an order that is fixed by the state, by the steps of Knuth's linear congruential generator.
-fn next_call(state: &mut u64) -> Call
-    ensures { result.session < 2 }
+// A call of one of the sessions: in seven of eight it reads a page.
+fn next_call(random: &mut Pcg32, sessions: u32) -> Call
+    requires { (1 ≤ sessions) × (sessions ≤ 64) }
+    ensures { result.session < 64 }
 {
-    *state = state
-        .wrapping_mul(6_364_136_223_846_793_005)
-        .wrapping_add(1_442_695_040_888_963_407);
-    let bits = *state >> 40;
+    let session = random.next_word() % sessions;
+    let bits = random.next_word();
     Call {
-        session: (bits % 2) as u8,
+        session,
         page: (bits / 16 % 8 != 0).then_some((bits / 256 % 8) as u8),
     }
 }
 
-// The keys of all pages.
-fn all_keys(alloc: Global) -> Result<Vec<PageKey>, AllocError> {
-    let mut keys = Vec::new(alloc);
-    for number in 0..PAGES {
-        keys.push(key_of(&[number; FRAME_BYTES], number))?;
+// Makes the calls on both pools, and tells whether the same was seen after each.
+fn make_calls(pool: &mut Pool, sessions: u32, seed: u64) -> bool
+    requires sessions { (1 ≤ sessions) × (sessions ≤ 64) }
+    requires home { AllHome pool.old }
+    ensures home { AllHome pool.new }
+    ensures frames { SameFrames pool.old pool.new }
+{
+    let page = [7; FRAME_BYTES];
+    let digest = Digest::new(<Sha256 as sha2::Digest>::digest(&page));
+    let mut plain = Plain::new();
+    let mut random = Pcg32::seed_from_u64(seed);
+    let mut same = true;
+    for _ in 0..CALLS {
+        let call = next_call(&mut random, sessions);
+        let seen = call_both(pool, &mut plain, &page, &digest, &call);
+        let agreed = agree(pool, &plain, &digest);
+        same = same && seen && agreed;
     }
-    Ok(keys)
+    same
+}
+
+// A pool of three frames, called by so many sessions, beside a plain one: whether the same is seen of both after each call.
+fn is_as_plain(alloc: Global, sessions: u32, seed: u64) -> Result<bool, AllocError>
+    requires { (1 ≤ sessions) × (sessions ≤ 64) }
+{
+    let (owner, frames) = make(alloc, 3)?;
+    match Pool::new(alloc, frames) {
+        Ok(mut pool) => {
+            let same = make_calls(&mut pool, sessions, seed);
+            owner.end(pool.end());
+            Ok(same)
+        }
+        Err(Unpooled { frames }) => {
+            owner.end(frames);
+            Err(AllocError)
+        }
+    }
 }
 
 #[test]
 fn two_sessions_share_three_frames(rt: HostRuntime) -> Result<(), Fail> {
-    let alloc = rt.alloc();
-    let keys = all_keys(alloc)?;
-    let (owner, frames) = make(alloc, 3)?;
-    let mut pool = match Pool::new(alloc, frames) {
-        Ok(pool) => pool,
-        Err(Unpooled { frames }) => {
-            owner.end(frames);
-            return Err(AllocError.into());
-        }
-    };
-    let mut plain = Plain::new();
-    let mut state = 5;
-    for _ in 0..60 {
-        let call = next_call(&mut state);
-        assert!(rt; call_both(&mut pool, &mut plain, &call));
-        assert!(rt; agree(&pool, &plain, &keys));
-    }
-    owner.end(pool.end());
+    assert!(rt; is_as_plain(rt.alloc(), 2, 5)?);
+    Ok(())
+}
+
+#[test]
+fn sixty_four_sessions_share_three_frames(rt: HostRuntime) -> Result<(), Fail> {
+    assert!(rt; is_as_plain(rt.alloc(), 64, 6)?);
     Ok(())
 }

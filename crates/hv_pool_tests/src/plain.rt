@@ -14,7 +14,7 @@ const NO_PAGE: u8 = 255;
 pub struct Plain {
     pages: [u8; FRAMES],
     came: [u64; FRAMES],
-    waits: [u8; FRAMES],
+    waits: [u64; FRAMES],
     clock: u64,
 }
 
@@ -67,8 +67,8 @@ impl Plain {
     }
 
     /// A session reads the page, where there is a frame for it; whoever brings it waits for it until it is read again.
-    pub fn read(&mut self, page: u8, session: u8)
-        requires { session < 2 }
+    pub fn read(&mut self, page: u8, session: u32)
+        requires { session < 64 }
     {
         self.clock = self.clock.saturating_add(1);
         if let Some(place) = self.place_of(page) {
@@ -82,8 +82,8 @@ impl Plain {
     }
 
     /// A session waits for nothing more.
-    pub fn forget(&mut self, session: u8)
-        requires { session < 2 }
+    pub fn forget(&mut self, session: u32)
+        requires { session < 64 }
     {
         for place in 0..FRAMES {
             self.waits[place] &= !(1 << session);
