@@ -4,3 +4,4 @@ pub mod Moves
 pub mod Made
 pub mod Shape
 pub mod Index
+pub mod Order

@@ -5,6 +5,7 @@
 mod index;
 mod key;
 mod law;
+mod order;
 mod pool;
 mod seen;
 mod slot;

@@ -4,6 +4,7 @@ ghost use Rattle.std.specs.List.{count_by, All, range_with_len};
 ghost use Rattle.hv_frames.specs.Frames.{AreAll};
 ghost use Rattle.hv_pool.specs.Made.{AreOfOne, IsMade, IsFilled, empty_slot, here};
 ghost use Rattle.hv_pool.specs.Shape.{HasRoom};
+ghost use Rattle.hv_pool.specs.Order.{IsOrdered};
 ghost use Rattle.sha2.specs.Sha256.{sha256};
 ghost use Rattle.hv_pool.specs.Slots.{seen_at, under, is_open, is_reading, is_in_hand, is_cached, is_gone, stands, IsPool, IsAway};
 ghost use Rattle.hv_pool.specs.Moves.{Asks, answer_of, ComesBack, IsLost, Forgets, Takes, started_by, cached_as, freed, moved, forgotten};
@@ -11,6 +12,7 @@ ghost use Rattle.hv_pool.specs.Key.{same_key};
 
 use crate::index::{empty_cells, find_under, reindex};
 use crate::key::same;
+use crate::order::{find_open, first_order, reorder};
 use crate::slot::{wait_less, wait_more};
 use crate::{Ask, Held, PageKey, Seen, Slot};
 use hv_frames::Frame;
@@ -27,6 +29,8 @@ pub struct Pool {
     // Where they are found by their keys, and whether a bucket of these cells overflowed.
     cells: Vec<u32>,
     crowded: bool,
+    // Which of them may be taken first.
+    order: Vec<u64>,
     // How many of them have a frame that may be taken.
     openings: u32,
     // How many pages came back, and one more.
@@ -50,32 +54,13 @@ impl Model for Pool {
 
     ghost use Rattle.hv_pool.specs.Shape.{IsInOrder, HasRoom};
     ghost use Rattle.hv_pool.specs.Index.{IsIndexed};
+    ghost use Rattle.hv_pool.specs.Order.{IsOrdered};
     ghost use Rattle.hv_pool.specs.Made.{owner_of};
     ghost use Rattle.std.specs.Prelude.{vec_capacity};
 
     ghost view = { λ p. record { owner = owner_of p.mark.value.items; slots = p.slots.items; came = p.came } };
 
-    ghost invariant = { λ p. IsInOrder (owner_of p.mark.value.items) p.slots.items p.came p.openings × HasRoom p.slots.items p.room.items (vec_capacity p.room) × IsIndexed p.cells.items p.crowded p.slots.items };
-}
-
-// The place that may be taken first: the one that came back longest ago.
-fn find_open(slots: &[Slot]) -> Option<usize>
-    ensures found { IfSome result (λ n. (n < length slots.now) × ((d : Slot) → (is_open (get_or slots.now n d) ≡ true) × All (λ s. is_open s ≡ true → (get_or slots.now n d).came ≤ s.came) slots.now)) }
-    ensures none { IfNone result (count_by is_open slots.now ≡ 0) }
-{
-    let mut best: Option<usize> = None;
-    for n in 0..slots.len() {
-        if !slots[n].is_open() {
-            continue;
-        }
-        if let Some(b) = best {
-            if slots[b].came <= slots[n].came {
-                continue;
-            }
-        }
-        best = Some(n);
-    }
-    best
+    ghost invariant = { λ p. IsInOrder (owner_of p.mark.value.items) p.slots.items p.came p.openings × HasRoom p.slots.items p.room.items (vec_capacity p.room) × IsIndexed p.cells.items p.crowded p.slots.items × IsOrdered p.order.items p.slots.items };
 }
 
 // A frame that stands under a key is asked for, for a session.
@@ -191,6 +176,9 @@ impl Pool {
         let Ok(cells) = empty_cells(alloc, frames.len()) else {
             return Err(Unpooled { frames });
         };
+        let Ok(order) = first_order(alloc, frames.len()) else {
+            return Err(Unpooled { frames });
+        };
         let Ok(mut slots) = empty_slots(alloc, frames.len()) else {
             return Err(Unpooled { frames });
         };
@@ -201,6 +189,7 @@ impl Pool {
             slots,
             cells,
             crowded: false,
+            order,
             came: 1,
             room,
             mark,
@@ -242,9 +231,11 @@ impl Pool {
             key,
         ) {
             self.openings -= openings_of(&self.slots[n]);
-            return take_standing(&mut self.slots[n], who);
+            let taken = take_standing(&mut self.slots[n], who);
+            reorder(self.order.as_mut_slice(), self.slots.as_slice(), n);
+            return taken;
         }
-        match find_open(self.slots.as_slice()) {
+        match find_open(self.slots.as_slice(), self.order.as_slice(), self.openings) {
             Some(n) => {
                 self.openings -= 1;
                 self.crowded = reindex(
@@ -254,7 +245,9 @@ impl Pool {
                     n,
                     key,
                 );
-                Ask::Start(start_in(&mut self.slots[n], key, who))
+                let frame = start_in(&mut self.slots[n], key, who);
+                reorder(self.order.as_mut_slice(), self.slots.as_slice(), n);
+                Ask::Start(frame)
             }
             None => Ask::Full {
                 frames: self.slots.len() as u32,
@@ -272,6 +265,7 @@ impl Pool {
         let n = frame.number() as usize;
         land_at(&mut self.slots[n], key, frame, self.came);
         self.openings += openings_of(&self.slots[n]);
+        reorder(self.order.as_mut_slice(), self.slots.as_slice(), n);
         self.came = self.came.saturating_add(1);
     }
 
@@ -285,6 +279,7 @@ impl Pool {
         let n = frame.number() as usize;
         back_at(&mut self.slots[n], key, frame, self.came);
         self.openings += openings_of(&self.slots[n]);
+        reorder(self.order.as_mut_slice(), self.slots.as_slice(), n);
         self.came = self.came.saturating_add(1);
     }
 
@@ -297,14 +292,16 @@ impl Pool {
         let n = frame.number() as usize;
         free_at(&mut self.slots[n], frame);
         self.openings += openings_of(&self.slots[n]);
+        reorder(self.order.as_mut_slice(), self.slots.as_slice(), n);
     }
+
     /// Ends all waits of a session.
     pub fn forget(&mut self, who: u32)
         requires { who < 64 }
         ensures change { Forgets self.old who self.new }
         ensures pool { IsPool self.old }
     {
-        self.openings = forget_all(self.slots.as_mut_slice(), who);
+        self.openings = forget_all(self.slots.as_mut_slice(), self.order.as_mut_slice(), who);
     }
 
     /// Gives all frames, where none is away.
@@ -318,6 +315,7 @@ impl Pool {
             slots,
             cells: _,
             crowded: _,
+            order: _,
             openings: _,
             came: _,
             room,
@@ -373,16 +371,20 @@ fn fill_all(slots: &mut [Slot], frames: &mut Vec<Frame>)
 }
 
 // Ends all waits of a session, and counts the frames that may be taken then.
-fn forget_all(slots: &mut [Slot], who: u32) -> u32
+fn forget_all(slots: &mut [Slot], order: &mut [u64], who: u32) -> u32
     requires who { who < 64 }
     requires short { length slots.old < 2 ^ 32 }
+    requires ordered { IsOrdered order.old slots.old }
     ensures slots { slots.new ≡ map (forgotten who) slots.old }
     ensures openings { result ≡ count_by is_open slots.new }
+    ensures length { length order.new ≡ length order.old }
+    ensures ordered { IsOrdered order.new slots.new }
 {
     let mut openings = 0;
     for n in 0..slots.len() {
         forget_at(&mut slots[n], who);
         openings += openings_of(&slots[n]);
+        reorder(order, slots, n);
     }
     openings
 }

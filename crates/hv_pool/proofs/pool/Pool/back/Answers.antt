@@ -1,4 +1,4 @@
-use Rattle.std.proofs.Common.{◌≡◌, ℕ, ◌+◌, ◌<◌, cond, List, set, refl, sym, ap, ◌∙◌, subst, arith}
+use Rattle.std.proofs.Common.{◌≡◌, ℕ, ◌+◌, ◌<◌, cond, List, length, set, refl, sym, ap, ◌∙◌, subst, arith}
 use Rattle.std.specs.List.{count_by}
 use Rattle.std.proofs.lemmas.List.{get_or-set_same, length-set}
 use Rattle.std.proofs.lemmas.List.Sums.{count_by-le-length}
@@ -7,6 +7,8 @@ use Rattle.hv_pool.specs.Slots.{Pooled, is_away, is_open, is_in_hand}
 use Rattle.hv_pool.specs.Moves.{ComesBack}
 use Rattle.hv_pool.proofs.Places.{away_at, at_place, no_slot, return_order, returns_to}
 use Rattle.hv_pool.specs.Made.{owner_of}
+use Rattle.hv_pool.specs.Order.{IsOrdered}
+use Rattle.hv_pool.proofs.Ordered.{ordered_back}
 use Rattle.hv_pool.proofs.Indexed.{return_index}
 use Rattle.hv_pool.proofs.pool.Pool.back.Goals as goal
 
@@ -43,6 +45,14 @@ overflow_add-self c =
     let o = return_order _ slots c.self.inside.came 0 c.self.inside.openings (c.self.inside.openings + c.openings_of.result) n is_in_hand c.args.key.now c.args.frame c.index_mut.result.now c.back_at.new.slot c.self.invariant.0 h c.index_mut.ensures.value c.back_at.ensures own (sym c.number-n.ensures) c.requires.digest opens in
     omega (arith, o.counted, count_by-le-length is_open (set slots n c.back_at.new.slot), o.short)
 
+pub reorder-requires-clause-within : goal.reorder-requires-clause-within
+reorder-requires-clause-within c =
+    let slots : List Slot = c.self.inside.slots.items in
+    let n = c.number-n.result in
+    let h : 0 < count_by (is_away n) slots = subst (λ (m : ℕ). 0 < count_by (is_away m) slots) (sym c.number-n.ensures) (subst (λ (p : Pooled). 0 < count_by (is_away c.args.frame.number) p.slots) (sym c.self.view_is) c.requires.away.away) in
+    let p = away_at _ slots c.self.inside.came c.self.inside.openings n c.self.invariant.0 h no_slot in
+    subst (λ (l : List Slot). n < length l) (sym c.as_slice.ensures.value) (omega (arith, p.within, length-set slots n c.back_at.new.slot))
+
 pub invariant_of-self : goal.invariant_of-self
 invariant_of-self c =
     let slots : List Slot = c.self.inside.slots.items in
@@ -54,6 +64,8 @@ invariant_of-self c =
       return_order _ slots c.self.inside.came _ c.self.inside.openings _ n is_in_hand c.args.key.now c.args.frame c.index_mut.result.now c.back_at.new.slot c.self.invariant.0 h c.index_mut.ensures.value c.back_at.ensures own (sym c.number-n.ensures) c.requires.digest opens,
       record { none = c.self.invariant.1.none; wide = omega (arith, c.self.invariant.1.wide, length-set slots n c.back_at.new.slot) },
       return_index c.self.inside.cells.items c.self.inside.crowded _ slots c.self.inside.came c.self.inside.openings n is_in_hand c.args.key.now c.args.frame c.index_mut.result.now c.back_at.new.slot c.self.invariant.2 c.self.invariant.0 h c.index_mut.ensures.value c.back_at.ensures,
+      ordered_back c.self.inside.order.items c.reorder.new.order c.self.inside.order.len (set slots n c.back_at.new.slot) (c.reorder.ensures.length ∙ ap length c.as_mut_slice.ensures.value) c.self.inside.order.ok.0
+          (subst (λ (l : List Slot). IsOrdered c.reorder.new.order l) c.as_slice.ensures.value c.reorder.ensures.ordered),
     )
 
 pub returns-clause-change : goal.returns-clause-change

@@ -1,4 +1,4 @@
-use Rattle.std.proofs.Common.{◌≡◌, List, length, map, sym, ap, subst, ◌∙◌, arith}
+use Rattle.std.proofs.Common.{◌≡◌, ℕ, List, ◌++◌, take, drop, length, map, sym, ap, subst, ◌∙◌, arith}
 use Rattle.std.specs.List.{count_by}
 use Rattle.std.proofs.lemmas.List.{take_at, length-map}
 use Rattle.hv_pool.specs.declared.slot.Slot.{Slot}
@@ -7,6 +7,8 @@ use Rattle.hv_pool.specs.Moves.{forgotten}
 use Rattle.hv_pool.specs.Made.{owner_of}
 use Rattle.hv_pool.specs.Shape.{IsInOrder}
 use Rattle.hv_pool.specs.Index.{IsIndexed}
+use Rattle.hv_pool.specs.Order.{IsOrdered}
+use Rattle.hv_pool.proofs.Ordered.{ordered_back}
 use Rattle.hv_pool.proofs.Indexed.{forget_index}
 use Rattle.hv_pool.proofs.Made.{forgets_order}
 use Rattle.hv_pool.proofs.pool.Pool.forget.Goals as goal
@@ -17,10 +19,14 @@ invariant_of-self c =
     let new : List Slot = c.forget_all-self-inside.new.slots in
     let is : new ≡ map (forgotten c.args.who) slots = c.forget_all-self-inside.ensures.slots ∙ ap (map (forgotten c.args.who)) c.as_mut_slice.ensures.value in
     let long = ap length is ∙ length-map slots (forgotten c.args.who) in
-    let back = sym is ∙ sym (take_at new _ c.self.inside.slots.len (omega (arith, long, c.self.inside.slots.ok.0))) in
+    let whole = sym (take_at new _ c.self.inside.slots.len (omega (arith, long, c.self.inside.slots.ok.0))) in
+    let back = sym is ∙ whole in
+    let order : List ℕ = c.forget_all-self-inside.new.order in
     let opens = c.forget_all-self-inside.ensures.openings ∙ ap (count_by is_open) is in (
       subst (λ (l : List Slot). IsInOrder (owner_of c.self.inside.mark.value.items) l c.self.inside.came c.forget_all-self-inside.result) back
           (forgets_order _ slots c.self.inside.came c.self.inside.openings c.forget_all-self-inside.result c.args.who c.self.invariant.0 opens),
       record { none = c.self.invariant.1.none; wide = omega (arith, c.self.invariant.1.wide, ap length back, length-map slots (forgotten c.args.who)) },
       subst (λ (l : List Slot). IsIndexed c.self.inside.cells.items c.self.inside.crowded l) back (forget_index c.self.inside.cells.items c.self.inside.crowded slots c.args.who c.self.invariant.2),
+      subst (λ (l : List Slot). IsOrdered (take c.self.inside.order.len (order ++ drop (length order) c.self.inside.order.items)) l) whole
+          (ordered_back c.self.inside.order.items order c.self.inside.order.len new (c.forget_all-self-inside.ensures.length ∙ ap length c.as_mut_slice-2.ensures.value) c.self.inside.order.ok.0 c.forget_all-self-inside.ensures.ordered),
     )

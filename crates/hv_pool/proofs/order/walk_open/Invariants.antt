@@ -2,7 +2,7 @@ use Rattle.std.proofs.Common.{◌≡◌, ℕ, ◌<◌, ◌≤◌, take, get_or, 
 use Rattle.std.specs.List.{count_by}
 use Rattle.hv_pool.specs.declared.slot.Slot.{Slot}
 use Rattle.hv_pool.specs.Slots.{is_open}
-use Rattle.hv_pool.proofs.pool.find_open.Given as goal
+use Rattle.hv_pool.proofs.order.walk_open.Given as goal
 
 abbrev pub invariant-loop-n : goal.invariant-loop-n
 invariant-loop-n l = record {
