@@ -1,5 +1,5 @@
 -- The laws of pools.
-use Rattle.std.proofs.Common.{◌≡◌, ◌+◌, ◌<◌, ℕ, zero, suc, Bool, true, false, cond, ◌&&◌, ◌||◌, not, nat_eq, nat_lt, if◌then◌else◌, List, [], ◌∷◌, length, refl, sym, ap, ◌∙◌, arith, true≢false}
+use Rattle.std.proofs.Common.{◌≡◌, ◌+◌, ◌<◌, ◌≤◌, ℕ, zero, suc, Bool, true, false, cond, ◌&&◌, ◌||◌, not, nat_eq, nat_lt, if◌then◌else◌, List, [], ◌∷◌, length, refl, sym, ap, ◌∙◌, arith, true≢false}
 use Rattle.std.specs.List.{sum_by, count_by}
 use Rattle.std.proofs.lemmas.Bool.{lt-ltb}
 use Rattle.std.proofs.lemmas.List.Sums.{sum_by-cons}
@@ -9,8 +9,9 @@ use Rattle.hv_pool.specs.declared.slot.Held.TheVariants as held
 use Rattle.hv_pool.specs.declared.slot.Slot.{Slot}
 use Rattle.hv_pool.specs.declared.seen.Seen.TheVariants as seen
 use Rattle.hv_pool.specs.Slots.{Pooled, seen_at, is_free, is_cached, is_reading, is_in_hand, is_open, is_gone, is_owed, cached_at, in_hand_at, reading_at}
-use Rattle.hv_pool.specs.Moves.{Moves}
-use Rattle.hv_pool.proofs.Places.{weighed}
+use Rattle.hv_pool.specs.Moves.{Moves, Forgets, forgotten}
+use Rattle.hv_pool.proofs.Places.{weighed, fewer}
+use Rattle.hv_pool.proofs.Made.{count_forgotten}
 
 none_from : (n : ℕ) → nat_lt 0 n ≡ false → n ≡ 0
 none_from zero e = refl
@@ -66,3 +67,10 @@ owed_where_full p key some none full = first p.slots some none (full_shuts p key
 
 pub moves_weigh : (old new : Pooled) (before after : Slot) → Moves old new before after → (weight : Slot → ℕ) → sum_by weight new.slots + weight before ≡ sum_by weight old.slots + weight after
 moves_weigh old new before after m weight = omega (arith, weighed weight old.slots before m.rest m.were, weighed weight new.slots after m.rest m.are)
+
+-- what passed and still passes at the place that changed is counted as often at least
+pub moves_keep : (old new : Pooled) (before after : Slot) → Moves old new before after → (test : Slot → Bool) → (test before ≡ true → test after ≡ true) → count_by test old.slots ≤ count_by test new.slots
+moves_keep old new before after m test keeps = omega (arith, moves_weigh old new before after m (λ s. cond (test s) 1 0), fewer (test before) (test after) keeps)
+
+pub forgets_keep : (old new : Pooled) (who : ℕ) → Forgets old who new → (test : Slot → Bool) → ((s : Slot) → test (forgotten who s) ≡ test s) → count_by test new.slots ≡ count_by test old.slots
+forgets_keep old new who f test same = ap (count_by test) f.slots ∙ count_forgotten who test old.slots same

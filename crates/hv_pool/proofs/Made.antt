@@ -282,6 +282,11 @@ goes_out all room slots s frame is p =
     (subst (λ z. IsPermutation (room ++ (here slots ++ frame ∷ [])) z) (sym (append_assoc room (frame ∷ []) (here slots)))
     (IsPermutation-append_right room (here slots ++ frame ∷ []) (frame ∷ here slots) (IsPermutation-to_front (here slots) frame)))
 
+-- what doesn't look at waits counts the same where waits end
+pub count_forgotten : (who : ℕ) (test : Slot → Bool) (xs : List Slot) → ((s : Slot) → test (forgotten who s) ≡ test s) → count_by test (map (forgotten who) xs) ≡ count_by test xs
+count_forgotten who test [] same = refl
+count_forgotten who test (x ∷ xs) same = omega (arith, sum_by-cons (λ y. cond (test y) 1 0) x xs, sum_by-cons (λ y. cond (test y) 1 0) (forgotten who x) (map (forgotten who) xs), ap {B = ℕ} (λ z. cond z 1 0) (same x), count_forgotten who test xs same)
+
 -- where the waits of a session end, each place stands as it stood
 pub forgets_order : (owner : Ptr) (slots : List Slot) (came openings more : ℕ) (who : ℕ) → IsInOrder owner slots came openings → more ≡ count_by is_open (map (forgotten who) slots) → IsInOrder owner (map (forgotten who) slots) came more
 forgets_order owner slots came openings more who o opens =
@@ -299,10 +304,6 @@ forgets_order owner slots came openings more who o opens =
       short = omega (arith, o.short, long);
     }
   where
-    count_forgotten : (who : ℕ) (test : Slot → Bool) (xs : List Slot) → ((s : Slot) → test (forgotten who s) ≡ test s) → count_by test (map (forgotten who) xs) ≡ count_by test xs
-    count_forgotten who test [] same = refl
-    count_forgotten who test (x ∷ xs) same = omega (arith, sum_by-cons (λ y. cond (test y) 1 0) x xs, sum_by-cons (λ y. cond (test y) 1 0) (forgotten who x) (map (forgotten who) xs), ap {B = ℕ} (λ z. cond z 1 0) (same x), count_forgotten who test xs same)
-
     numbers_forgotten : (who : ℕ) (xs : List Slot) → map (λ (s : Slot). s.number) (map (forgotten who) xs) ≡ map (λ (s : Slot). s.number) xs
     numbers_forgotten who [] = refl
     numbers_forgotten who (x ∷ xs) = ap (λ z. x.number ∷ z) (numbers_forgotten who xs)

@@ -135,6 +135,11 @@ put_any owner slots came later openings more n old v o within is number keys hol
       short = subst (λ (k : ℕ). k < 2 ^ 32) (sym (length-set slots n v)) o.short;
     }
 
+-- where one passes only if the other does
+pub fewer : (a c : Bool) → (a ≡ true → c ≡ true) → cond a 1 0 ≤ cond c 1 0
+fewer false c h = omega arith
+fewer true c h = omega (arith, ap {B = ℕ} (λ z. cond z 1 0) (h refl))
+
 -- another frame's place at this number
 pub put_order : (owner : Ptr) (slots : List Slot) (came later openings more n : ℕ) (old v : Slot) → IsInOrder owner slots came openings → n < length slots → old ≡ get_or slots n old → v.number ≡ old.number
     → ((k : PageKey) → under k v ≡ true → under k old ≡ true) → Holds owner v → more + cond (is_open old) 1 0 ≡ openings + cond (is_open v) 1 0 → IsInOrder owner (set slots n v) later more
@@ -153,10 +158,6 @@ put_order owner slots came later openings more n old v o within is number less h
       counted = omega (arith, o.counted, swap (λ s. cond (is_open s) 1 0), opens);
       short = subst (λ (k : ℕ). k < 2 ^ 32) (sym (length-set slots n v)) o.short;
     }
-  where
-    fewer : (a c : Bool) → (a ≡ true → c ≡ true) → cond a 1 0 ≤ cond c 1 0
-    fewer false c h = omega arith
-    fewer true c h = omega (arith, ap {B = ℕ} (λ z. cond z 1 0) (h refl))
 
 -- what comes back to its place
 abbrev pub returned : (Held → Bool) → PageKey → Framed → ℕ → Slot → Slot

@@ -1,9 +1,9 @@
 -- A frame that is given and comes back leaves none away.
-use Rattle.std.proofs.Common.{◌≡◌, ◌+◌, ◌<◌, ◌≤◌, ℕ, Bool, true, false, cond, ◌&&◌, ◌||◌, nat_eq, if◌then◌else◌, List, [], ◌∷◌, map, length, refl, sym, ap, ◌∙◌, subst, arith, true≢false, IsPermutation}
-use Rattle.std.specs.List.{sum_by, count_by}
+use Rattle.std.proofs.Common.{◌≡◌, ◌≤◌, ℕ, Bool, true, false, cond, ◌&&◌, ◌||◌, nat_eq, if◌then◌else◌, List, ◌∷◌, length, refl, sym, ap, ◌∙◌, arith, true≢false, IsPermutation}
+use Rattle.std.specs.List.{count_by}
 use Rattle.std.proofs.lemmas.Bool.{eq-eqb}
 use Rattle.std.proofs.lemmas.List.{length-map}
-use Rattle.std.proofs.lemmas.List.Sums.{sum_by-cons, sum_by-le-sum_by}
+use Rattle.std.proofs.lemmas.List.Sums.{sum_by-le-sum_by}
 use Rattle.std.proofs.lemmas.List.Sorted.{length_permutation}
 use Rattle.hv_frames.specs.Frames.{Framed}
 use Rattle.hv_pool.specs.declared.key.PageKey.{PageKey}
@@ -14,7 +14,7 @@ use Rattle.hv_pool.specs.Key.{same_key}
 use Rattle.hv_pool.specs.Slots.{Pooled, IsPool, IsAway, is_free, is_cached, is_reading, is_in_hand, is_open, is_gone, is_away, is_numbered}
 use Rattle.hv_pool.specs.Moves.{Moves, Hits, Starts, Joins, ComesBack, Forgets, cached_as, freed, forgotten}
 use Rattle.hv_pool.specs.Made.{IsMade}
-use Rattle.hv_pool.proofs.Laws.{moves_weigh}
+use Rattle.hv_pool.proofs.Laws.{moves_weigh, forgets_keep}
 use Rattle.hv_pool.proofs.Made.{none_pass}
 use Rattle.hv_pool.proofs.Places.{weighed, both}
 use Rattle.hv_pool_tests.specs.Home.{AllHome, SameFrames}
@@ -87,13 +87,9 @@ pub join_home : (old new : Pooled) (key : PageKey) (who other : ℕ) → AllHome
 join_home old new key who other home join =
     (omega (arith, home, moves_weigh old new join.slot _ join.change (λ x. cond (is_gone x) 1 0)), moved_frames old new join.slot _ join.change)
 
-gone_forgotten : (who : ℕ) (xs : List Slot) → count_by is_gone (map (forgotten who) xs) ≡ count_by is_gone xs
-gone_forgotten who [] = refl
-gone_forgotten who (x ∷ xs) = omega (arith, gone_forgotten who xs, sum_by-cons (λ s. cond (is_gone s) 1 0) x xs, sum_by-cons (λ s. cond (is_gone s) 1 0) (forgotten who x) (map (forgotten who) xs))
-
 pub forget_home : (old new : Pooled) (who : ℕ) → AllHome old → Forgets old who new → AllHome new × SameFrames old new
 forget_home old new who home forgets = (
-  omega (arith, home, gone_forgotten who old.slots, ap (count_by is_gone) forgets.slots),
+  forgets_keep old new who forgets is_gone (λ s. refl) ∙ home,
   record { owner = forgets.owner; count = ap length forgets.slots ∙ length-map old.slots (forgotten who) },
 )
 

@@ -1,4 +1,4 @@
-use Rattle.std.proofs.Common.{◌≡◌, ◌<◌, ℕ, ◌∙◌, sym, subst}
+use Rattle.std.proofs.Common.{◌<◌, ℕ, ◌∙◌, sym, subst}
 use Rattle.std.specs.List.{count_by}
 use Rattle.hv_pool.specs.Slots.{IsAway, is_away}
 use Rattle.hv_pool_tests.proofs.Homes.{hit_home, start_home, join_home}
