@@ -1,12 +1,12 @@
 // A device over files in a folder.
-ghost use Rattle.std.specs.Prelude.{◌≡◌, IfOk};
-ghost use Rattle.hv_dev.specs.Reading.{none_back};
+ghost use Rattle.std.specs.Prelude.{◌≡◌, ◌+◌, ◌%◌, ◌^◌, [], Some, IfOk, OnOk, OnErr};
+ghost use Rattle.hv_dev.specs.Reading.{none_back, unread, went};
 
 use super::file::StoredFile;
 use super::port::FilePort;
 use super::writer::Writer;
 use crate::memory::Landed;
-use crate::{Device, Order, Past};
+use crate::{Device, Order, PageSink, Past};
 use std::alloc::{AllocError, Global};
 use std::rt::Files;
 use std::sync::Arc;
@@ -51,7 +51,16 @@ impl<R: Files + Clone + Drop> Device for FileDevice<R> {
 
     ghost returned = { λ it. record { faults = it.faults; submits = it.submits; most = it.most; landings = it.landings; out = it.out } };
 
-    fn port(&mut self, alloc: Global, _: Order, room: u32) -> Result<FilePort<R>, AllocError> {
+    // Ports have numbers in order, modulo 2^64: no other port has the names of its files.
+    fn port(&mut self, alloc: Global, _: Order, room: u32) -> Result<FilePort<R>, AllocError>
+        ensures fresh { IfOk result (λ port. ⟦<FilePort<R> as PageSink>⟧.reading port ≡ unread _ room) }
+        ensures calm { IfOk result (λ port. ⟦<FilePort<R> as PageSink>⟧.write_faults port ≡ 0) }
+        ensures empty { IfOk result (λ port. ⟦<FilePort<R> as PageSink>⟧.written port ≡ Some []) }
+        ensures out { OnOk result (⟦<FileDevice<R> as Device>⟧.returned self.new ≡ went (⟦<FileDevice<R> as Device>⟧.returned self.old)) }
+        ensures kept { OnErr result (⟦<FileDevice<R> as Device>⟧.returned self.new ≡ ⟦<FileDevice<R> as Device>⟧.returned self.old) }
+        ensures numbered { IfOk result (λ port. (port.writer.port ≡ self.old.made) × (port.writer.begun ≡ 0)) }
+        ensures made { OnOk result (self.new.made ≡ (self.old.made + 1) % 2 ^ 64) }
+    {
         let Some(out) = self.out.checked_add(1) else {
             return Err(AllocError);
         };

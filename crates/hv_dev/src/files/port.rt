@@ -33,6 +33,7 @@ pub struct FilePort<R: Files> {
 impl<R: Files + Drop> FilePort<R> {
     /// A port with that room, whose files are written so.
     pub fn new(alloc: Global, writer: Writer<R>, room: u32) -> Result<FilePort<R>, AllocError>
+        ensures writer { IfOk result (λ port. port.writer ≡ writer) }
         ensures room { IfOk result (λ port. port.room ≡ room) }
         ensures open { IfOk result (λ port. (port.is_given_up ≡ false) × (port.pages ≡ []) × (port.write_faults ≡ 0)) }
         ensures unread { IfOk result (λ port. (port.held.items ≡ []) × (port.submits ≡ 0) × (port.most ≡ 0) × (port.read_faults ≡ 0) × (port.landings ≡ [])) }
