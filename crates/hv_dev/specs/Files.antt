@@ -31,3 +31,9 @@ pub record ReadPage {F : Type 0} (position : F → Option ℕ) (remaining : F �
   pub found : F
   pub moved : IfSome (position before) (λ _. position found ≡ Some (4096 * number))
   pub read : Consumes (remaining found) (remaining after) bytes
+
+-- so they were of some file
+pub record FetchedPage {F : Type 0} (position : F → Option ℕ) (remaining : F → Option (List ℕ)) (number : ℕ) (bytes : List ℕ) : Type 0 where
+  pub before : F
+  pub after : F
+  pub is : ReadPage position remaining before after number bytes

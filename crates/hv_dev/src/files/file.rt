@@ -1,7 +1,7 @@
 // A sealed file of the operating system, and the reads of it.
 ghost use Rattle.std.specs.Prelude.{◌≡◌, ◌++◌, ◌∷◌, [], true, false, OnOk};
 ghost use Rattle.hv_io.specs.Counts.{Rose};
-ghost use Rattle.hv_dev.specs.Files.{ReadPage};
+ghost use Rattle.hv_dev.specs.Files.{ReadPage, FetchedPage};
 ghost use Rattle.hv_dev.specs.Reading.{landing_of};
 
 use crate::memory::{Held, Landed};
@@ -30,7 +30,9 @@ impl StoredFile {
     }
 
     // Opens the file and reads the page of that number.
-    fn read<R: Files>(&self, rt: &R, number: u32, bytes: &mut [u8]) -> io::Result<()> {
+    fn read<R: Files>(&self, rt: &R, number: u32, bytes: &mut [u8]) -> io::Result<()>
+        ensures { OnOk result (FetchedPage R.File.stream_position R.File.remaining number bytes.new) }
+    {
         let mut file = fs::open(rt, self.path.as_str())?;
         read_page(&mut file, number, bytes)
     }
@@ -56,6 +58,7 @@ impl Held<StoredFile> {
         ensures owner { result.frame.owner ≡ self.owner }
         ensures number { result.frame.number ≡ self.frame }
         ensures noted { result.landed ≡ true → landings.new ≡ landings.old ++ landing_of self result.frame.bytes ∷ [] }
+        ensures read { result.landed ≡ true → FetchedPage R.File.stream_position R.File.remaining self.page result.frame.bytes }
         ensures calm { result.landed ≡ true → faults.new ≡ faults.old }
         ensures lost { result.landed ≡ false → landings.new ≡ landings.old }
         ensures rose { result.landed ≡ false → Rose faults.old faults.new }
