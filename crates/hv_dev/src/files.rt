@@ -2,8 +2,6 @@
 mod device;
 mod file;
 mod port;
-#[cfg(test)]
-mod tests;
 mod writer;
 
 pub use device::FileDevice;

@@ -9,8 +9,6 @@ mod memory;
 mod past;
 mod port;
 mod sink;
-#[cfg(test)]
-mod tests;
 
 pub use device::{Device, Order};
 pub use file::PageFile;

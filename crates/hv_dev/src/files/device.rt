@@ -22,7 +22,7 @@ pub struct FileDevice<R> {
     folder: Arc<Vec<u8>, Global>,
     /// How many ports it has made, modulo 2^64.
     made: u64,
-    pub(super) faults: u64,
+    faults: u64,
     submits: u64,
     most: u32,
     landings: Past<Landed<StoredFile>>,
