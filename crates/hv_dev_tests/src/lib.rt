@@ -1,6 +1,8 @@
-//! Tests of `hv_dev` as its callers see it: devices in memory and over files. There is nothing else in this crate.
+//! Tests of `hv_io` and `hv_dev` as their callers see them. There is nothing else in this crate.
 #![tactic(auto)]
 
+#[cfg(test)]
+mod bytes;
 #[cfg(test)]
 mod files;
 #[cfg(test)]

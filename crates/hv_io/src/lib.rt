@@ -7,8 +7,6 @@ mod printer;
 mod sink;
 mod source;
 mod standard;
-#[cfg(test)]
-mod tests;
 mod writing;
 
 pub use memory::{MemSink, MemSource};
