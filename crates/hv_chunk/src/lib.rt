@@ -5,8 +5,6 @@
 mod builder;
 mod chunk;
 mod fault;
-#[cfg(test)]
-mod tests;
 
 pub use builder::ChunkBuilder;
 pub use chunk::Chunk;

@@ -1,0 +1,268 @@
+// Chunks over devices in memory and over files; the pages that are wanted are packed anew, 408 rows of one number to a page.
+ghost use Rattle.std.specs.Prelude.{◌≡◌, ◌+◌, ◌<◌, ◌≤◌, [], length, true, Some, IfOk, IfErr, OnOk};
+ghost use Rattle.hv_row.specs.Row.{RowFits};
+ghost use Rattle.hv_chunk.specs.declared.fault.BuildFault.TheVariants.{TooLong};
+
+use crate::packed::{ROWS, page_of};
+use crate::reads::read_run;
+use hv_chunk::{BuildFault, Chunk, ChunkBuilder};
+use hv_dev::{CleanDevice, Device, Fail, FailKind, FileDevice, MemDevice, Order, PageSink, Port};
+use hv_page::digest;
+use hv_row::{Bytes, ColType, Column, Columns, Copied, Row, Schema, Value, is_schema, row_fits};
+use hv_view::ChunkView;
+use std::alloc::{AllocError, Global};
+use std::process::Abort;
+use std::{fs, test};
+
+// A schema of so many columns of a type, named by their places.
+fn schema_of(alloc: Global, kind: ColType, count: u8) -> Result<Schema, test::Fail> {
+    let mut columns = Columns::new(alloc);
+    for at in 0..count {
+        let name = Bytes::from_slice(alloc, &[at])?;
+        columns.push(Column {
+            name,
+            kind,
+            index: false,
+            range: false,
+        })?;
+    }
+    if !is_schema(columns.as_slice()) {
+        return Err("no schema".into());
+    }
+    Ok(Schema::new(columns))
+}
+
+// A builder without a row.
+fn builder_of(alloc: Global, schema: &Schema) -> Result<ChunkBuilder, AllocError>
+    ensures { IfOk result (λ b. b ≡ record { schema = schema.now; rows = []; pages = [] }) }
+{
+    ChunkBuilder::new(alloc, schema.copy(alloc)?)
+}
+
+// A row of one number, which fits a schema of one.
+fn row_of(rt: &impl Abort, alloc: Global, schema: &Schema, number: u32) -> Row
+    ensures { RowFits schema.now result }
+{
+    let mut row = Row::new(alloc);
+    let value = Value::Int(i64::from(number));
+    row.push(value).expect(rt, "room for a value");
+    assert!(rt; row_fits(row.as_slice(), schema.columns()));
+    row
+}
+
+// Pushes so many rows of one number, from 0 on: 408 fill a page, which is written at the next.
+fn push_rows<P: PageSink>(
+    rt: &impl Abort,
+    alloc: Global,
+    port: &mut P,
+    builder: &mut ChunkBuilder,
+    schema: &Schema,
+    count: u32,
+) -> Result<(), BuildFault>
+    requires schema { builder.old.schema ≡ schema.now }
+    requires none { builder.old.rows ≡ [] }
+    requires few { count ≤ 1000000 }
+    requires mine { P.written port.old ≡ Some builder.old.pages }
+    ensures rows { OnOk result (builder.new.schema ≡ schema.now) }
+    ensures mine { OnOk result (P.written port.new ≡ Some builder.new.pages) }
+    ensures abandoned { IfErr result (λ fault. ¬ (fault ≡ TooLong) → P.written port.new ≡ Some []) }
+    ensures kept { P.reading port.new ≡ P.reading port.old }
+{
+    for number in 0..count {
+        let row = row_of(rt, alloc, schema, number);
+        builder.push(alloc, row, port)?;
+        assert!(rt; builder.pages_written() == number / ROWS);
+    }
+    Ok(())
+}
+
+// Builds a chunk of so many rows of one number, from 0 on.
+fn build<P: PageSink>(
+    rt: &impl Abort,
+    alloc: Global,
+    port: &mut P,
+    schema: &Schema,
+    count: u32,
+) -> Result<Chunk<P::File>, BuildFault>
+    requires few { count ≤ 1000000 }
+    requires open { P.written port.old ≡ Some [] }
+    ensures next { OnOk result (P.written port.new ≡ Some []) }
+    ensures abandoned { IfErr result (λ fault. ¬ (fault ≡ TooLong) → P.written port.new ≡ Some []) }
+    ensures kept { P.reading port.new ≡ P.reading port.old }
+    ensures pages { IfOk result (λ chunk. P.File.tells ≡ true → length (P.File.pages chunk.file) ≡ chunk.heap_pages) }
+{
+    let mut builder = builder_of(alloc, schema).expect(rt, "a builder");
+    match push_rows(rt, alloc, port, &mut builder, schema, count) {
+        Ok(()) => builder.finish(alloc, port),
+        Err(fault) => Err(fault),
+    }
+}
+
+// Whether a page of a chunk of so many rows is packed so, and its digest is recorded.
+fn is_packed<P: Port>(
+    rt: &impl Abort,
+    alloc: Global,
+    port: &mut P,
+    chunk: &Chunk<P::File>,
+    page: u32,
+    count: u32,
+) -> bool
+    requires within { page < chunk.now.heap_pages }
+    requires digest { page < length chunk.now.digests }
+    requires pages { P.File.tells ≡ true → length (P.File.pages chunk.now.file) ≡ chunk.now.heap_pages }
+    requires room { 1 ≤ (P.reading port.old).room }
+    requires none { (P.reading port.old).in_flight ≡ [] }
+    ensures room { (P.reading port.new).room ≡ (P.reading port.old).room }
+    ensures none { (P.reading port.new).in_flight ≡ [] }
+{
+    let seen = read_run(rt, alloc, port, chunk.file(), page, 1);
+    let Some(read) = seen.first() else {
+        return false;
+    };
+    let is_wanted = read.landed && read.bytes.as_slice() == page_of(page, count).as_slice();
+    is_wanted && chunk.digest_of(page) == digest(&read.bytes)
+}
+
+// Whether a chunk has so many rows, and each of its pages is packed so.
+fn is_read_back<P: Port>(
+    rt: &impl Abort,
+    alloc: Global,
+    port: &mut P,
+    chunk: &Chunk<P::File>,
+    count: u32,
+) -> bool
+    requires pages { P.File.tells ≡ true → length (P.File.pages chunk.now.file) ≡ chunk.now.heap_pages }
+    requires room { 1 ≤ (P.reading port.old).room }
+    requires none { (P.reading port.old).in_flight ≡ [] }
+{
+    for page in 0..chunk.heap_pages() {
+        if !is_packed(rt, alloc, port, chunk, page, count) {
+            return false;
+        }
+    }
+    chunk.row_count() == count
+}
+
+// Whether a chunk of so many rows has so many pages, and all are read back.
+fn is_built<D: Device>(
+    rt: &impl Abort,
+    alloc: Global,
+    device: &mut D,
+    count: u32,
+    pages: u32,
+) -> Result<bool, test::Fail>
+    requires { count ≤ 1000000 }
+{
+    let schema = schema_of(alloc, ColType::Int, 1)?;
+    let mut port = device.port(alloc, Order::Fifo, 1)?;
+    let chunk = build(rt, alloc, &mut port, &schema, count)?;
+    Ok(chunk.heap_pages() == pages && is_read_back(rt, alloc, &mut port, &chunk, count))
+}
+
+// How many rows are pushed, and how many pages they take.
+const PAGES: [(u32, u32); 5] = [(0, 0), (1, 1), (408, 1), (409, 2), (100_000, 246)];
+
+#[test]
+fn packs_408_rows_to_a_page(rt: HostRuntime) -> Result<(), test::Fail> {
+    for (count, pages) in PAGES {
+        assert!(rt;
+            is_built(&rt, rt.alloc(), &mut CleanDevice::new(), count, pages)?,
+            "{count}"
+        );
+    }
+    Ok(())
+}
+
+// The folder has one file alone.
+#[test]
+fn reads_a_chunk_of_files_back(rt: HostRuntime) -> Result<(), test::Fail> {
+    let folder = b"hv_chunk_files_test".to_vec(rt.alloc())?;
+    let mut device = FileDevice::new(rt.alloc(), rt, folder)?;
+    assert!(rt; is_built(&rt, rt.alloc(), &mut device, 1_000, 3)?);
+    fs::remove_file(&rt, "hv_chunk_files_test/0-0.pages")?;
+    Ok(fs::remove_dir(&rt, "hv_chunk_files_test")?)
+}
+
+// Whether 409 rows fail once for a write, and then are built on the same port.
+fn goes_on<P: PageSink>(rt: &impl Abort, alloc: Global, port: &mut P, schema: &Schema) -> bool
+    requires { P.written port.old ≡ Some [] }
+{
+    match build(rt, alloc, port, schema, 409) {
+        Err(BuildFault::Write) => {}
+        _ => return false,
+    }
+    match build(rt, alloc, port, schema, 409) {
+        Ok(chunk) => chunk.heap_pages() == 2,
+        Err(_) => false,
+    }
+}
+
+const FAILS: [(FailKind, u32); 3] = [
+    (FailKind::Write, 1),
+    (FailKind::Write, 2),
+    (FailKind::Seal, 1),
+];
+
+#[test]
+fn goes_on_after_a_fault(rt: HostRuntime) -> Result<(), test::Fail> {
+    let alloc = rt.alloc();
+    let schema = schema_of(alloc, ColType::Int, 1)?;
+    for (kind, nth) in FAILS {
+        let mut fails = Vec::new(alloc);
+        fails.push(Fail { port: 0, kind, nth })?;
+        let mut port = MemDevice::new(fails).port(alloc, Order::Fifo, 1)?;
+        assert!(rt; goes_on(&rt, alloc, &mut port, &schema));
+    }
+    Ok(())
+}
+
+// Eight texts of so many bytes, each of which takes a byte more: 2,000 bytes for 249, and 2,008 for 250.
+fn texts_of(alloc: Global, bytes: usize) -> Result<Row, AllocError>
+    requires { bytes ≤ 255 }
+{
+    let mut row = Row::new(alloc);
+    for _ in 0..8u8 {
+        row.push(Value::Text(Bytes::from_slice(alloc, &[b'a'; 255][..bytes])?))?;
+    }
+    Ok(row)
+}
+
+// Pushes a row of eight texts, and says whether it isn't too long.
+fn push_texts<P: PageSink>(
+    alloc: Global,
+    port: &mut P,
+    builder: &mut ChunkBuilder,
+    schema: &Schema,
+    bytes: usize,
+) -> Result<bool, test::Fail>
+    requires bytes { bytes ≤ 255 }
+    requires schema { builder.old.schema ≡ schema.now }
+    requires few { length builder.old.rows < 1000000 }
+    requires mine { P.written port.old ≡ Some builder.old.pages }
+    ensures same { OnOk result (builder.new.schema ≡ schema.now) }
+    ensures few { OnOk result (length builder.new.rows ≤ length builder.old.rows + 1) }
+    ensures mine { OnOk result (P.written port.new ≡ Some builder.new.pages) }
+{
+    let row = texts_of(alloc, bytes)?;
+    if !row_fits(row.as_slice(), schema.columns()) {
+        return Err("no row of the schema".into());
+    }
+    match builder.push(alloc, row, port) {
+        Ok(()) => Ok(true),
+        Err(BuildFault::TooLong) => Ok(false),
+        Err(_) => Err("no row more".into()),
+    }
+}
+
+#[test]
+fn goes_on_after_a_long_row(rt: HostRuntime) -> Result<(), test::Fail> {
+    let alloc = rt.alloc();
+    let schema = schema_of(alloc, ColType::Text, 8)?;
+    let mut port = CleanDevice::new().port(alloc, Order::Fifo, 1)?;
+    let mut builder = builder_of(alloc, &schema)?;
+    assert!(rt; !push_texts(alloc, &mut port, &mut builder, &schema, 250)?);
+    assert!(rt; push_texts(alloc, &mut port, &mut builder, &schema, 249)?);
+    let chunk = builder.finish(alloc, &mut port)?;
+    assert!(rt; chunk.row_count() == 1 && chunk.heap_pages() == 1);
+    Ok(())
+}
