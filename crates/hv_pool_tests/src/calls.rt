@@ -1,162 +1,180 @@
-// Random calls on a pool of three frames by some sessions, held against a plain pool after each call.
-ghost use Rattle.std.specs.Prelude.{◌≡◌, ◌<◌, ◌≤◌, length};
-ghost use Rattle.sha2.specs.Sha256.{sha256};
-ghost use Rattle.hv_pool.specs.Slots.{IsPool};
-ghost use Rattle.hv_pool_tests.specs.Home.{AllHome, SameFrames};
+// Random calls on a pool and on a plain one, held against each other after each.
+ghost use Rattle.std.specs.Prelude.{◌<◌, ◌≤◌};
 
+use crate::fixture::{Fixture, Way};
 use crate::plain::Plain;
-use hv_frames::{FRAME_BYTES, Frame, make};
-use hv_pool::{Ask, PageKey, Pool, Seen, Unpooled};
-use hv_row::Digest;
+use hv_pool::Seen;
 use rand_core::SeedableRng;
 use rand_core::utils::NextWord;
 use rand_pcg::Pcg32;
-use sha2::Sha256;
 use std::alloc::{AllocError, Global};
 use std::test::Fail;
 
-// A call of a session: a page to read, or no page where it waits for nothing more.
-#[derive(Drop)]
-struct Call {
-    session: u32,
-    page: Option<u8>,
-}
-
-// The key of a page by its number. All pages have the same bytes, so that their digest is taken once.
-fn key_of(number: u8, digest: &Digest) -> PageKey
-    ensures { result.digest ≡ digest.now }
-{
-    PageKey {
-        chunk: 7,
-        page: u32::from(number),
-        digest: *digest,
-    }
-}
-
-// Reads a page through the pool: a session asks for it, brings it where it isn't here, and gives the frame back.
-fn read(pool: &mut Pool, key: &PageKey, page: &[u8], session: u32) -> Seen
-    requires session { session < 64 }
-    requires page { length page.now ≡ 4096 }
-    requires digest { sha256 page.now ≡ key.now.digest }
-    requires home { AllHome pool.old }
-    ensures home { AllHome pool.new }
-    ensures frames { SameFrames pool.old pool.new }
-{
-    match pool.ask(key, session) {
-        Ask::Hit(frame) => {
-            pool.back(key, frame);
-            Seen::Hit
-        }
-        Ask::Start(frame) => {
-            pool.landed(key, written(frame, page));
-            Seen::Start
-        }
-        Ask::Reading { who: _ } => Seen::Reading,
-        Ask::Busy { who: _ } => Seen::Busy,
-        Ask::Full { frames: _ } => Seen::Full,
-    }
-}
-
-// The frame with these bytes.
-fn written(frame: Frame, page: &[u8]) -> Frame
-    requires { length page.now ≡ 4096 }
-    ensures owner { result.owner ≡ frame.owner }
-    ensures number { result.number ≡ frame.number }
-    ensures bytes { result.bytes ≡ page.now }
-{
-    let mut frame = frame;
-    frame.bytes_mut().copy_from_slice(page);
-    frame
-}
-
-// How many pages the sessions read.
+// How many pages the sessions ask for.
 const PAGES: u8 = 8;
 
 // How many calls are made.
 const CALLS: u32 = 100_000;
 
-// Makes one call on both pools, and tells whether the same is seen of the page.
-fn call_both(pool: &mut Pool, plain: &mut Plain, page: &[u8], digest: &Digest, call: &Call) -> bool
-    requires session { call.now.session < 64 }
-    requires page { length page.now ≡ 4096 }
-    requires digest { sha256 page.now ≡ digest.now }
-    requires home { AllHome pool.old }
-    ensures home { AllHome pool.new }
-    ensures frames { SameFrames pool.old pool.new }
+// A call on the pool.
+#[derive(Clone, Copy)]
+enum Call {
+    Ask {
+        page: u8,
+        session: u32,
+    },
+    // One of the frames that are away comes back so; `page` says with which page, or with its own.
+    Give {
+        which: u32,
+        way: Way,
+        page: Option<u8>,
+    },
+    Forget {
+        session: u32,
+    },
+}
+
+// Which answers were met, and which ways back, with a frame's own page and with another.
+#[derive(Drop, Clone, Copy)]
+struct Met {
+    answers: [bool; 5],
+    own: [bool; 3],
+    other: [bool; 3],
+}
+
+impl Met {
+    fn none() -> Met {
+        Met {
+            answers: [false; 5],
+            own: [false; 3],
+            other: [false; 3],
+        }
+    }
+
+    fn answer(&mut self, seen: Seen) {
+        match seen {
+            Seen::Hit => self.answers[0] = true,
+            Seen::Start => self.answers[1] = true,
+            Seen::Reading => self.answers[2] = true,
+            Seen::Busy => self.answers[3] = true,
+            Seen::Full => self.answers[4] = true,
+        }
+    }
+
+    fn way(&mut self, way: Way, own: bool) {
+        let met = if own { &mut self.own } else { &mut self.other };
+        match way {
+            Way::Landed => met[0] = true,
+            Way::Back => met[1] = true,
+            Way::Lost => met[2] = true,
+        }
+    }
+
+    fn is_all(&self) -> bool {
+        self.answers == [true; 5] && self.own == [true; 3] && self.other == [true; 3]
+    }
+}
+
+// A call of one of the sessions: in ten of sixteen it asks for a page, in five a frame comes back.
+fn next_call(random: &mut Pcg32, sessions: u32) -> Call
+    requires { (1 ≤ sessions) × (sessions ≤ 64) }
 {
-    let session = call.session;
-    let Some(number) = call.page else {
-        pool.forget(session);
-        plain.forget(session);
+    let session = random.next_word() % sessions;
+    let bits = random.next_word();
+    let page = (bits / 256 % 8) as u8;
+    match bits / 65_536 % 16 {
+        0 => Call::Forget { session },
+        1..=5 => Call::Give {
+            which: bits / 16_777_216,
+            way: next_way(bits / 2_048 % 8),
+            page: (bits / 1_048_576 % 4 == 0).then_some(page),
+        },
+        _ => Call::Ask { page, session },
+    }
+}
+
+// A frame lands in four of eight, comes back from a hand in three, and is lost in one.
+fn next_way(bits: u32) -> Way {
+    match bits {
+        0..=3 => Way::Landed,
+        4..=6 => Way::Back,
+        _ => Way::Lost,
+    }
+}
+
+// Makes one call on both pools, and tells whether both answer the same.
+fn call_both(fixture: &mut Fixture, plain: &mut Plain, call: Call, met: &mut Met) -> bool {
+    match call {
+        Call::Ask { page, session } => ask_both(fixture, plain, page, session % 64, met),
+        Call::Give { which, way, page } => give_both(fixture, plain, which, way, page, met),
+        Call::Forget { session } => {
+            fixture.forget(session % 64);
+            plain.forget(session % 64);
+            true
+        }
+    }
+}
+
+fn ask_both(fixture: &mut Fixture, plain: &mut Plain, page: u8, session: u32, met: &mut Met) -> bool
+    requires { session < 64 }
+{
+    let answer = fixture.ask(page, session);
+    met.answer(answer.seen);
+    plain.ask(page, session, &answer)
+}
+
+fn give_both(
+    fixture: &mut Fixture,
+    plain: &mut Plain,
+    which: u32,
+    way: Way,
+    page: Option<u8>,
+    met: &mut Met,
+) -> bool {
+    let Some(number) = fixture.choose(which) else {
         return true;
     };
-    let key = key_of(number, digest);
-    let expected = plain.look(number);
-    let seen = read(pool, &key, page, session);
-    plain.read(number, session);
-    seen == expected
+    let own = plain.page_of(number);
+    let page = page.unwrap_or(own);
+    met.way(way, page == own);
+    plain.give(number, way, page);
+    fixture.give(way, page)
 }
 
 // Whether the same is seen of each page in both pools.
-fn agree(pool: &Pool, plain: &Plain, digest: &Digest) -> bool {
-    for number in 0..PAGES {
-        if pool.look(&key_of(number, digest)) != plain.look(number) {
+fn agree(fixture: &Fixture, plain: &Plain) -> bool {
+    for page in 0..PAGES {
+        if fixture.look(page) != plain.look(page) {
             return false;
         }
     }
     true
 }
 
-// A call of one of the sessions: in seven of eight it reads a page.
-fn next_call(random: &mut Pcg32, sessions: u32) -> Call
+// Makes the calls on both pools: whether both answered the same each time, and everything was met.
+fn make_calls(fixture: &mut Fixture, sessions: u32, seed: u64) -> bool
     requires { (1 ≤ sessions) × (sessions ≤ 64) }
-    ensures { result.session < 64 }
 {
-    let session = random.next_word() % sessions;
-    let bits = random.next_word();
-    Call {
-        session,
-        page: (bits / 16 % 8 != 0).then_some((bits / 256 % 8) as u8),
-    }
-}
-
-// Makes the calls on both pools, and tells whether the same was seen after each.
-fn make_calls(pool: &mut Pool, sessions: u32, seed: u64) -> bool
-    requires sessions { (1 ≤ sessions) × (sessions ≤ 64) }
-    requires home { AllHome pool.old }
-    ensures home { AllHome pool.new }
-    ensures frames { SameFrames pool.old pool.new }
-{
-    let page = [7; FRAME_BYTES];
-    let digest = Digest::new(<Sha256 as sha2::Digest>::digest(&page));
     let mut plain = Plain::new();
     let mut random = Pcg32::seed_from_u64(seed);
-    let mut same = true;
+    let mut met = Met::none();
     for _ in 0..CALLS {
         let call = next_call(&mut random, sessions);
-        let seen = call_both(pool, &mut plain, &page, &digest, &call);
-        let agreed = agree(pool, &plain, &digest);
-        same = same && seen && agreed;
+        if !call_both(fixture, &mut plain, call, &mut met) || !agree(fixture, &plain) {
+            return false;
+        }
     }
-    same
+    met.is_all()
 }
 
-// A pool of three frames, called by so many sessions, beside a plain one: whether the same is seen of both after each call.
+// Whether a pool of three frames is as the plain one in calls by so many sessions.
 fn is_as_plain(alloc: Global, sessions: u32, seed: u64) -> Result<bool, AllocError>
     requires { (1 ≤ sessions) × (sessions ≤ 64) }
 {
-    let (owner, frames) = make(alloc, 3)?;
-    match Pool::new(alloc, frames) {
-        Ok(mut pool) => {
-            let same = make_calls(&mut pool, sessions, seed);
-            owner.end(pool.end());
-            Ok(same)
-        }
-        Err(Unpooled { frames }) => {
-            owner.end(frames);
-            Err(AllocError)
-        }
-    }
+    let mut fixture = Fixture::new(alloc)?;
+    let same = make_calls(&mut fixture, sessions, seed);
+    fixture.end();
+    Ok(same)
 }
 
 #[test]

@@ -1,83 +1,194 @@
-// A plain pool of three frames, of which none is away between two calls: what the proved one is held against.
+// A plain pool of three frames, written from the rules: what the proved one is held against.
 ghost use Rattle.std.specs.Prelude.{◌<◌, IfSome};
 
+use crate::fixture::{Answer, Way};
 use hv_pool::Seen;
 
 /// How many frames it has.
 pub const FRAMES: usize = 3;
 
-// The page of a frame that has none.
-const NO_PAGE: u8 = 255;
+// Where a frame is.
+#[derive(Clone, Copy, PartialEq, Eq)]
+enum State {
+    Free,
+    Cached,
+    Reading,
+    InHand,
+}
 
-/// Pages by their numbers, below 255, when each came back, and which sessions wait for it, a bit each.
+// A frame: the page under which it stands, for which session it is away, when its page came back, and who waits for it, a bit each.
+#[derive(Clone, Copy)]
+struct Place {
+    state: State,
+    page: u8,
+    session: u32,
+    came: u64,
+    waits: u64,
+}
+
+// A frame without a page.
+const EMPTY: Place = Place {
+    state: State::Free,
+    page: 0,
+    session: 0,
+    came: 0,
+    waits: 0,
+};
+
+impl Place {
+    // Whether the frame stands under the page.
+    fn has(&self, page: u8) -> bool {
+        self.state != State::Free && self.page == page
+    }
+
+    // Whether the frame may be taken.
+    fn is_open(&self) -> bool {
+        self.state == State::Free || (self.state == State::Cached && self.waits == 0)
+    }
+}
+
+/// Frames by their numbers, and how many pages came back, and one more.
 #[derive(Drop)]
 pub struct Plain {
-    pages: [u8; FRAMES],
-    came: [u64; FRAMES],
-    waits: [u64; FRAMES],
+    places: [Place; FRAMES],
     clock: u64,
 }
 
 impl Plain {
     pub fn new() -> Plain {
         Plain {
-            pages: [NO_PAGE; FRAMES],
-            came: [0; FRAMES],
-            waits: [0; FRAMES],
-            clock: 0,
+            places: [EMPTY; FRAMES],
+            clock: 1,
         }
     }
 
-    // The frame with the page.
+    // The frame that stands under the page.
     fn place_of(&self, page: u8) -> Option<usize>
-        ensures { IfSome result (λ place. place < 3) }
+        ensures { IfSome result (λ n. n < 3) }
     {
-        for place in 0..FRAMES {
-            if self.pages[place] == page {
-                return Some(place);
+        for n in 0..FRAMES {
+            if self.places[n].has(page) {
+                return Some(n);
             }
         }
         None
     }
 
-    // The frame without a waiting session that came back longest ago.
-    fn oldest(&self) -> Option<usize>
-        ensures { IfSome result (λ place. place < 3) }
-    {
-        let mut oldest = None;
-        let mut least = u64::MAX;
-        for place in 0..FRAMES {
-            if self.waits[place] == 0 && self.came[place] < least {
-                least = self.came[place];
-                oldest = Some(place);
+    // Whether no frame may be taken.
+    fn is_shut(&self) -> bool {
+        for n in 0..FRAMES {
+            if self.places[n].is_open() {
+                return false;
             }
         }
-        oldest
+        true
+    }
+
+    // Whether the frame may be taken, and of all that may came back longest ago.
+    fn is_oldest(&self, number: usize) -> bool
+        requires { number < 3 }
+    {
+        let came = self.places[number].came;
+        for n in 0..FRAMES {
+            if self.places[n].is_open() && self.places[n].came < came {
+                return false;
+            }
+        }
+        self.places[number].is_open()
     }
 
     /// What is seen of the page.
     pub fn look(&self, page: u8) -> Seen {
-        if self.place_of(page).is_some() {
-            Seen::Hit
-        } else if self.oldest().is_some() {
-            Seen::Start
-        } else {
-            Seen::Full
+        match self.place_of(page) {
+            Some(n) => match self.places[n].state {
+                State::Free | State::Cached => Seen::Hit,
+                State::Reading => Seen::Reading,
+                State::InHand => Seen::Busy,
+            },
+            None if self.is_shut() => Seen::Full,
+            None => Seen::Start,
         }
     }
 
-    /// A session reads the page, where there is a frame for it; whoever brings it waits for it until it is read again.
-    pub fn read(&mut self, page: u8, session: u32)
+    /// The page of a frame.
+    pub fn page_of(&self, number: u32) -> u8 {
+        match self.places.get(number as usize) {
+            Some(place) => place.page,
+            None => 0,
+        }
+    }
+
+    /// A session asks for the page. False where this isn't the answer.
+    pub fn ask(&mut self, page: u8, session: u32, answer: &Answer) -> bool
         requires { session < 64 }
     {
-        self.clock = self.clock.saturating_add(1);
-        if let Some(place) = self.place_of(page) {
-            self.waits[place] &= !(1 << session);
-            self.came[place] = self.clock;
-        } else if let Some(place) = self.oldest() {
-            self.pages[place] = page;
-            self.waits[place] = 1 << session;
-            self.came[place] = self.clock;
+        if answer.seen != self.look(page) {
+            return false;
+        }
+        match self.place_of(page) {
+            Some(n) => self.ask_standing(n, session, answer.number),
+            None if answer.seen == Seen::Start => self.start(page, session, answer.number),
+            None => answer.number == 3,
+        }
+    }
+
+    // A session asks for the page of a frame. False where the frame or the session isn't the one that was answered.
+    fn ask_standing(&mut self, n: usize, session: u32, number: u32) -> bool
+        requires { (n < 3) × (session < 64) }
+    {
+        let place = &mut self.places[n];
+        match place.state {
+            State::Free | State::Cached => {
+                place.state = State::InHand;
+                place.session = session;
+                place.waits &= !(1 << session);
+                number as usize == n
+            }
+            State::Reading => {
+                place.waits |= 1 << session;
+                number == place.session
+            }
+            State::InHand => number == place.session,
+        }
+    }
+
+    // The frame is taken for the page. False where it may not be, or another came back longer ago.
+    fn start(&mut self, page: u8, session: u32, number: u32) -> bool
+        requires { session < 64 }
+    {
+        let n = number as usize;
+        if n >= FRAMES || !self.is_oldest(n) {
+            return false;
+        }
+        self.places[n] = Place {
+            state: State::Reading,
+            page,
+            session,
+            came: 0,
+            waits: 1 << session,
+        };
+        true
+    }
+
+    /// The frame comes back so, with the page.
+    pub fn give(&mut self, number: u32, way: Way, page: u8) {
+        let clock = self.clock;
+        if way != Way::Lost {
+            self.clock = clock.saturating_add(1);
+        }
+        let Some(place) = self.places.get_mut(number as usize) else {
+            return;
+        };
+        let wanted = if way == Way::Landed {
+            State::Reading
+        } else {
+            State::InHand
+        };
+        if way != Way::Lost && place.state == wanted && place.page == page {
+            place.state = State::Cached;
+            place.came = clock;
+        } else {
+            *place = EMPTY;
         }
     }
 
@@ -85,8 +196,8 @@ impl Plain {
     pub fn forget(&mut self, session: u32)
         requires { session < 64 }
     {
-        for place in 0..FRAMES {
-            self.waits[place] &= !(1 << session);
+        for n in 0..FRAMES {
+            self.places[n].waits &= !(1 << session);
         }
     }
 }

@@ -1,0 +1,226 @@
+// A pool of three frames, with those of them that are away.
+ghost use Rattle.std.specs.Prelude.{◌≡◌, ◌<◌, length};
+ghost use Rattle.hv_pool_tests.specs.Out.{AreOut};
+
+use hv_frames::{FRAME_BYTES, Frame, Owner, make};
+use hv_pool::{Ask, PageKey, Pool, Seen, Unpooled};
+use hv_row::Digest;
+use sha2::Sha256;
+use std::alloc::{AllocError, Global};
+use std::marker::Model;
+
+/// How a frame comes back.
+#[derive(Clone, Copy, Debug, PartialEq, Eq)]
+pub enum Way {
+    Landed,
+    Back,
+    Lost,
+}
+
+/// What is answered to an ask, with the number of the frame that is given, or else of the session that has it, or else of the frames that there are.
+#[derive(Clone, Copy, Debug, PartialEq, Eq)]
+pub struct Answer {
+    pub seen: Seen,
+    pub number: u32,
+}
+
+/// A pool of three frames, with those of them that are away.
+#[must_use]
+pub struct Fixture {
+    owner: Owner,
+    pool: Pool,
+    // The one that comes back next is the last.
+    away: Vec<Frame>,
+    // All pages have the same bytes, so that their digest is taken once.
+    page: Vec<u8>,
+    digest: Digest,
+}
+
+impl Model for Fixture {
+    ghost use Rattle.hv_pool.specs.Slots.{Pooled};
+
+    ghost Value = { Pooled };
+
+    ghost use Rattle.std.specs.Prelude.{◌≤◌, vec_capacity};
+    ghost use Rattle.hv_pool_tests.specs.Out.{AreOut, IsPage};
+
+    ghost view = { λ f. f.pool };
+
+    ghost invariant = { λ f. AreOut f.owner f.pool f.away.items × (f.owner.count ≤ vec_capacity f.away) × IsPage f.page.items f.digest };
+}
+
+// The key of a page by its number.
+fn key_of(page: u8, digest: &Digest) -> PageKey
+    ensures { result.digest ≡ digest.now }
+{
+    PageKey {
+        chunk: 7,
+        page: u32::from(page),
+        digest: *digest,
+    }
+}
+
+// The frame with these bytes.
+fn written(frame: Frame, page: &[u8]) -> Frame
+    requires { length page.now ≡ 4096 }
+    ensures owner { result.owner ≡ frame.owner }
+    ensures number { result.number ≡ frame.number }
+    ensures bytes { result.bytes ≡ page.now }
+{
+    let mut frame = frame;
+    frame.bytes_mut().copy_from_slice(page);
+    frame
+}
+
+impl Fixture {
+    /// Three frames in a pool, none of them away.
+    pub fn new(alloc: Global) -> Result<Fixture, AllocError> {
+        let page = vec![in alloc; 7; FRAME_BYTES]?;
+        let digest = Digest::new(<Sha256 as sha2::Digest>::digest(page.as_slice()));
+        let (owner, frames) = make(alloc, 3)?;
+        let Ok(away) = Vec::with_capacity(alloc, 3) else {
+            owner.end(frames);
+            return Err(AllocError);
+        };
+        match Pool::new(alloc, frames) {
+            Ok(pool) => Ok(Fixture {
+                owner,
+                pool,
+                away,
+                page,
+                digest,
+            }),
+            Err(Unpooled { frames }) => {
+                away.destroy_empty();
+                owner.end(frames);
+                Err(AllocError)
+            }
+        }
+    }
+
+    /// What an ask for the page would answer.
+    pub fn look(&self, page: u8) -> Seen {
+        self.pool.look(&key_of(page, &self.digest))
+    }
+
+    /// A session asks for the page, and the frame that it is given goes away.
+    pub fn ask(&mut self, page: u8, session: u32) -> Answer
+        requires { session < 64 }
+    {
+        let key = key_of(page, &self.digest);
+        match self.pool.ask(&key, session) {
+            Ask::Hit(frame) => {
+                let number = frame.number();
+                self.away.push_reserved(frame);
+                Answer {
+                    seen: Seen::Hit,
+                    number,
+                }
+            }
+            Ask::Start(frame) => {
+                let number = frame.number();
+                self.away.push_reserved(frame);
+                Answer {
+                    seen: Seen::Start,
+                    number,
+                }
+            }
+            Ask::Reading { who } => Answer {
+                seen: Seen::Reading,
+                number: who,
+            },
+            Ask::Busy { who } => Answer {
+                seen: Seen::Busy,
+                number: who,
+            },
+            Ask::Full { frames } => Answer {
+                seen: Seen::Full,
+                number: frames,
+            },
+        }
+    }
+
+    /// Chooses which frame comes back next, of those that are away, and gives its number.
+    pub fn choose(&mut self, which: u32) -> Option<u32> {
+        let count = self.away.len();
+        if count == 0 {
+            return None;
+        }
+        self.away.swap(which as usize % count, count - 1);
+        Some(self.away[count - 1].number())
+    }
+
+    /// The last frame that is away comes back so, with the page. False where none is away.
+    pub fn give(&mut self, way: Way, page: u8) -> bool {
+        match way {
+            Way::Landed => self.land(page),
+            Way::Back => self.give_back(page),
+            Way::Lost => self.lose(page),
+        }
+    }
+
+    fn land(&mut self, page: u8) -> bool {
+        if self.away.is_empty() {
+            return false;
+        }
+        let Some(frame) = self.away.pop() else {
+            unreachable!();
+        };
+        let key = key_of(page, &self.digest);
+        self.pool.landed(&key, written(frame, self.page.as_slice()));
+        true
+    }
+
+    fn give_back(&mut self, page: u8) -> bool {
+        if self.away.is_empty() {
+            return false;
+        }
+        let Some(frame) = self.away.pop() else {
+            unreachable!();
+        };
+        let key = key_of(page, &self.digest);
+        self.pool.back(&key, written(frame, self.page.as_slice()));
+        true
+    }
+
+    fn lose(&mut self, page: u8) -> bool {
+        if self.away.is_empty() {
+            return false;
+        }
+        let Some(frame) = self.away.pop() else {
+            unreachable!();
+        };
+        self.pool.lost(&key_of(page, &self.digest), frame);
+        true
+    }
+
+    /// A session waits for nothing more.
+    pub fn forget(&mut self, session: u32)
+        requires { session < 64 }
+    {
+        self.pool.forget(session);
+    }
+
+    /// All frames come back, and the pool ends.
+    pub fn end(self) {
+        let Fixture {
+            owner,
+            pool,
+            away,
+            page: _,
+            digest,
+        } = self;
+        end_all(owner, pool, away, &key_of(0, &digest));
+    }
+}
+
+// All frames come back, and the pool ends.
+fn end_all(owner: Owner, mut pool: Pool, mut away: Vec<Frame>, key: &PageKey)
+    requires { AreOut owner pool away.items }
+{
+    while let Some(frame) = away.pop() {
+        pool.lost(key, frame);
+    }
+    away.destroy_empty();
+    owner.end(pool.end());
+}
