@@ -13,13 +13,13 @@ use Rattle.hv_pool.specs.declared.seen.Ask.TheVariants as ask
 use Rattle.hv_frames.specs.Frames.{Framed}
 use Rattle.hv_pool.specs.Key.{same_key}
 use Rattle.hv_pool.specs.Made.{IsFilled}
-use Rattle.hv_pool.specs.Moves.{Takes, cached_as, freed, forgotten}
+use Rattle.hv_pool.specs.Moves.{Takes, returned, cached_as, freed, forgotten}
 use Rattle.hv_pool.specs.Shape.{IsInOrder}
 use denote.RawPtr.{Ptr}
 use Rattle.hv_pool.specs.Slots.{under, stands, is_away}
 use Rattle.hv_pool.specs.Index.{bucket_of, InBucket, IsIndexed}
 use Rattle.hv_pool.proofs.Made.{none_pass}
-use Rattle.hv_pool.proofs.Places.{both, key_alone, no_slot, at_place, returned}
+use Rattle.hv_pool.proofs.Places.{both, key_alone, no_slot, at_place}
 
 -- a key that no place of its bucket stands under has no place
 pub index_none : (cells : List ℕ) (slots : List Slot) (key : PageKey) → IsIndexed cells false slots
@@ -83,16 +83,10 @@ returned_key away key frame came s v v_is = ap (λ (z : Slot). z.key) v_is ∙ g
     go false = refl
 
 -- the place of a frame that is away keeps its key
-away_index : (cells : List ℕ) (crowded : Bool) (owner : Ptr) (slots : List Slot) (came openings n : ℕ) (old v : Slot) → IsIndexed cells crowded slots → IsInOrder owner slots came openings → 0 < count_by (is_away n) slots → old ≡ get_or slots n old → v.key ≡ old.key → IsIndexed cells crowded (set slots n v)
-away_index cells crowded owner slots came openings n old v indexed o h is key =
-    let p = at_place owner slots came openings n old o h is in
-    index_keeps cells crowded slots n old v indexed p.0.within is (under_key old v key p.0.stand)
-
 pub return_index : (cells : List ℕ) (crowded : Bool) (owner : Ptr) (slots : List Slot) (came openings n : ℕ) (away : Held → Bool) (key : PageKey) (frame : Framed) (old v : Slot) → IsIndexed cells crowded slots → IsInOrder owner slots came openings → 0 < count_by (is_away n) slots → old ≡ get_or slots n old → v ≡ returned away key frame came old → IsIndexed cells crowded (set slots n v)
-return_index cells crowded owner slots came openings n away key frame old v indexed o h is v_is = away_index cells crowded owner slots came openings n old v indexed o h is (returned_key away key frame came old v v_is)
-
-pub lost_index : (cells : List ℕ) (crowded : Bool) (owner : Ptr) (slots : List Slot) (came openings n : ℕ) (frame : Framed) (old v : Slot) → IsIndexed cells crowded slots → IsInOrder owner slots came openings → 0 < count_by (is_away n) slots → old ≡ get_or slots n old → v ≡ freed frame old → IsIndexed cells crowded (set slots n v)
-lost_index cells crowded owner slots came openings n frame old v indexed o h is v_is = away_index cells crowded owner slots came openings n old v indexed o h is (ap (λ (z : Slot). z.key) v_is)
+return_index cells crowded owner slots came openings n away key frame old v indexed o h is v_is =
+    let p = at_place owner slots came openings n old o h is in
+    index_keeps cells crowded slots n old v indexed p.0.within is (under_key old v (returned_key away key frame came old v v_is) p.0.stand)
 
 takes_key : (old v : Slot) (who : ℕ) (result : Ask) → Takes old who result v → v.key ≡ old.key
 takes_key old v who (ask.Hit frame) t = ap (λ (z : Slot). z.key) t.2

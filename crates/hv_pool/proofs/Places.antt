@@ -2,7 +2,7 @@
 use Rattle.std.proofs.Common.{◌≡◌, ℕ, zero, suc, ◌+◌, ◌<◌, ◌≤◌, ◌^◌, Bool, true, false, cond, ◌&&◌, ◌||◌, nat_eq, if◌then◌else◌, List, [], ◌∷◌, map, length, get_or, set, refl, sym, ap, ◌∙◌, subst, arith, IsPermutation, Some, None, true≢false}
 use Rattle.std.specs.Prelude.{All, IfSome}
 use Rattle.std.specs.List.{sum_by, count_by, range_with_len}
-use Rattle.std.proofs.Common.{min, ◌-◌}
+use Rattle.std.proofs.Common.{◌-◌}
 use Rattle.std.specs.Cmp.Lexicographic.{same_text}
 use Rattle.std.proofs.Math.Seq.{map-set_same}
 use Rattle.std.proofs.lemmas.Bool.{eqb-true, eq-eqb, lt-ltb}
@@ -22,7 +22,9 @@ use Rattle.hv_pool.specs.declared.seen.Seen.{Seen}
 use Rattle.hv_pool.specs.declared.seen.Seen.TheVariants as seen
 use Rattle.std.proofs.Common.{nat_lt}
 use Rattle.hv_pool.specs.Slots.{Pooled, Holds, is_free, is_cached, is_reading, is_in_hand, is_open, is_numbered, is_away, IsAway, stands, under, seen_at, cached_at, in_hand_at, reading_at, with_wait}
-use Rattle.hv_pool.specs.Moves.{ComesBack, IsLost, cached_as, freed, Takes, Asks, answer_of, Starts, started_by}
+use Rattle.hv_pool.specs.Moves.{Moves, Arrives, returned, brings, came_after, cached_as, freed, Takes, Asks, answer_of, Starts, started_by}
+use Rattle.hv_pool.specs.declared.slot.Arrival.{Arrival}
+use Rattle.hv_pool.specs.declared.slot.Arrival.TheVariants as arrival
 use Rattle.hv_pool.specs.declared.seen.Ask.{Ask}
 use Rattle.hv_pool.specs.declared.seen.Ask.TheVariants as ask
 use Rattle.hv_pool.specs.Shape.{IsInOrder}
@@ -140,30 +142,14 @@ pub fewer : (a c : Bool) → (a ≡ true → c ≡ true) → cond a 1 0 ≤ cond
 fewer false c h = omega arith
 fewer true c h = omega (arith, ap {B = ℕ} (λ z. cond z 1 0) (h refl))
 
--- another frame's place at this number
+-- another frame's place at this number, which stands under no other key
 pub put_order : (owner : Ptr) (slots : List Slot) (came later openings more n : ℕ) (old v : Slot) → IsInOrder owner slots came openings → n < length slots → old ≡ get_or slots n old → v.number ≡ old.number
     → ((k : PageKey) → under k v ≡ true → under k old ≡ true) → Holds owner v → more + cond (is_open old) 1 0 ≡ openings + cond (is_open v) 1 0 → IsInOrder owner (set slots n v) later more
 put_order owner slots came later openings more n old v o within is number less holds opens =
-    let r = split_at slots n old v within is in
-    let swap : (f : Slot → ℕ) → sum_by f (set slots n v) + f old ≡ sum_by f slots + f v = λ f. omega (arith, weighed f slots old r.0 r.1, weighed f (set slots n v) v r.0 r.2) in
-    let placed : map (λ z. z.number) (set slots n v) ≡ range_with_len 0 (length (set slots n v)) = map-set_same (λ (s : Slot). s.number) slots n v old (number ∙ ap (λ (s : Slot). s.number) is) ∙ o.placed ∙ ap (range_with_len 0) (sym (length-set slots n v)) in
-    record {
-      pool = record {
-        numbers = λ m. omega (arith, o.pool.numbers m, swap (λ s. cond (is_numbered m s) 1 0), ap {B = ℕ} (λ z. cond (nat_eq z m) 1 0) number);
-        every = every_number (set slots n v) (length (set slots n v)) placed;
-        keys = λ k. omega (arith, o.pool.keys k, swap (λ s. cond (under k s) 1 0), fewer (under k v) (under k old) (less k));
-        holds = All-set (Holds owner) slots n v holds o.pool.holds;
-      };
-      placed = placed;
-      counted = omega (arith, o.counted, swap (λ s. cond (is_open s) 1 0), opens);
-      short = subst (λ (k : ℕ). k < 2 ^ 32) (sym (length-set slots n v)) o.short;
-    }
+    put_any owner slots came later openings more n old v o within is number (λ k. omega (arith, o.pool.keys k, fewer (under k v) (under k old) (less k))) holds opens
 
 -- what comes back to its place
-abbrev pub returned : (Held → Bool) → PageKey → Framed → ℕ → Slot → Slot
-returned away key frame came s = if away s.held && same_key key s.key then cached_as came frame s else freed frame s
-
-pub returned_holds : (owner : Ptr) (away : Held → Bool) (key : PageKey) (frame : Framed) (came n : ℕ) (slots : List Slot) (s : Slot) → Place slots n s → frame.owner ≡ owner → frame.number ≡ n → sha256 frame.bytes ≡ key.digest
+pub returned_holds : (owner : Ptr) (away : Held → Bool) (key : PageKey) (frame : Framed) (came n : ℕ) (slots : List Slot) (s : Slot) → Place slots n s → frame.owner ≡ owner → frame.number ≡ n → ((h : Held) → away h ≡ true → sha256 frame.bytes ≡ key.digest)
     → Holds owner (returned away key frame came s) × ((k : PageKey) → under k (returned away key frame came s) ≡ true → under k s ≡ true) × ((returned away key frame came s).number ≡ s.number)
 returned_holds owner away key frame came n slots s p own number digest = go (away s.held && same_key key s.key) refl
   where
@@ -172,7 +158,7 @@ returned_holds owner away key frame came n slots s p own number digest = go (awa
 
     go : (b : Bool) → away s.held && same_key key s.key ≡ b → Holds owner (if b then cached_as came frame s else freed frame s) × ((k : PageKey) → under k (if b then cached_as came frame s else freed frame s) ≡ true → under k s ≡ true) × ((if b then cached_as came frame s else freed frame s).number ≡ s.number)
     go true e = (
-      record { here = λ q. here; away = λ q. absurd (true≢false q); true_page = λ q. digest ∙ ap (λ (k : PageKey). k.digest) (key_alone key s.key (both _ _ e).1); nobody = λ q. absurd (true≢false (sym q)) },
+      record { here = λ q. here; away = λ q. absurd (true≢false q); true_page = λ q. digest s.held (both (away s.held) (same_key key s.key) e).0 ∙ ap (λ (k : PageKey). k.digest) (key_alone key s.key (both _ _ e).1); nobody = λ q. absurd (true≢false (sym q)) },
       λ k h. ap (λ z. z && same_key k s.key) p.stand ∙ h,
       refl,
     )
@@ -185,46 +171,34 @@ at_place owner slots came openings n s o h is =
 
 -- the order after a frame came back to its place
 pub return_order : (owner : Ptr) (slots : List Slot) (came later openings more n : ℕ) (away : Held → Bool) (key : PageKey) (frame : Framed) (old v : Slot) → IsInOrder owner slots came openings → 0 < count_by (is_away n) slots → old ≡ get_or slots n old
-    → v ≡ returned away key frame came old → frame.owner ≡ owner → frame.number ≡ n → sha256 frame.bytes ≡ key.digest → more ≡ openings + cond (is_open v) 1 0 → IsInOrder owner (set slots n v) later more
+    → v ≡ returned away key frame came old → frame.owner ≡ owner → frame.number ≡ n → ((h : Held) → away h ≡ true → sha256 frame.bytes ≡ key.digest) → more ≡ openings + cond (is_open v) 1 0 → IsInOrder owner (set slots n v) later more
 return_order owner slots came later openings more n away key frame old v o h is v_is own number digest opens =
     let p = at_place owner slots came openings n old o h is in
     let r = returned_holds owner away key frame came n slots old p.0 own number digest in
     put_order owner slots came later openings more n old v o p.0.within is (ap (λ (s : Slot). s.number) v_is ∙ r.2)
     (λ k u. r.1 k (subst (λ z. under k z ≡ true) v_is u)) (subst (λ z. Holds owner z) (sym v_is) r.0) (omega (arith, opens, ap {B = ℕ} (λ z. cond z 1 0) p.0.shut))
 
-pub returns_to : (old new : Pooled) (openings n : ℕ) (away : Held → Bool) (key : PageKey) (frame : Framed) (s v : Slot) → IsInOrder old.owner old.slots old.came openings → 0 < count_by (is_away n) old.slots → s ≡ get_or old.slots n s → v ≡ returned away key frame old.came s
-    → frame.number ≡ n → new.slots ≡ set old.slots n v → new.owner ≡ old.owner → new.came ≡ min (old.came + 1) (2 ^ 64 - 1) → ComesBack away old key frame new
-returns_to old new openings n away key frame s v o h is v_is number slots owner came =
+-- a frame came back to its place
+pub returned_moves : (old new : Pooled) (openings n : ℕ) (away : Held → Bool) (key : PageKey) (frame : Framed) (s v : Slot) → IsInOrder old.owner old.slots old.came openings → 0 < count_by (is_away n) old.slots → s ≡ get_or old.slots n s
+    → v ≡ returned away key frame old.came s → frame.number ≡ n → new.slots ≡ set old.slots n v → new.owner ≡ old.owner → (s.number ≡ frame.number) × Moves old new s (returned away key frame old.came s)
+returned_moves old new openings n away key frame s v o h is v_is number slots owner =
     let p = at_place old.owner old.slots old.came openings n s o h is in
-    let r = split_at old.slots n s v p.0.within is in
-    record {
-      slot = s;
-      number = p.0.number ∙ sym number;
-      change = record { rest = r.0; were = r.1; are = subst (λ (l : List Slot). IsPermutation l (returned away key frame old.came s ∷ r.0)) (sym slots) (subst (λ z. IsPermutation (set old.slots n v) (z ∷ r.0)) v_is r.2); owner = owner };
-      came = came;
-    }
+    let r = split_at old.slots n s v p.0.within is in (
+      p.0.number ∙ sym number,
+      record { rest = r.0; were = r.1; are = subst (λ (l : List Slot). IsPermutation l (returned away key frame old.came s ∷ r.0)) (sym slots) (subst (λ z. IsPermutation (set old.slots n v) (z ∷ r.0)) v_is r.2); owner = owner },
+    )
 
--- the order after a frame came back without its page
-pub lost_order : (owner : Ptr) (slots : List Slot) (came later openings more n : ℕ) (frame : Framed) (old v : Slot) → IsInOrder owner slots came openings → 0 < count_by (is_away n) slots → old ≡ get_or slots n old
-    → v ≡ freed frame old → frame.owner ≡ owner → frame.number ≡ n → more ≡ openings + cond (is_open v) 1 0 → IsInOrder owner (set slots n v) later more
-lost_order owner slots came later openings more n frame old v o h is v_is own number opens =
-    let p = at_place owner slots came openings n old o h is in
-    put_order owner slots came later openings more n old v o p.0.within is (ap (λ (s : Slot). s.number) v_is)
-    (λ k u. absurd (true≢false (sym u ∙ ap (λ z. under k z) v_is)))
-    (subst (λ z. Holds owner z) (sym v_is) (record { here = λ q. (frame, refl, own, number ∙ sym p.0.number); away = λ q. absurd (true≢false q); true_page = λ q. absurd (true≢false (sym q)); nobody = λ q. refl }))
-    (omega (arith, opens, ap {B = ℕ} (λ z. cond z 1 0) p.0.shut))
-
-pub lost_to : (old new : Pooled) (openings n : ℕ) (frame : Framed) (s v : Slot) → IsInOrder old.owner old.slots old.came openings → 0 < count_by (is_away n) old.slots → s ≡ get_or old.slots n s → v ≡ freed frame s
-    → frame.number ≡ n → new.slots ≡ set old.slots n v → new.owner ≡ old.owner → new.came ≡ old.came → IsLost old frame new
-lost_to old new openings n frame s v o h is v_is number slots owner came =
-    let p = at_place old.owner old.slots old.came openings n s o h is in
-    let r = split_at old.slots n s v p.0.within is in
-    record {
-      slot = s;
-      number = p.0.number ∙ sym number;
-      change = record { rest = r.0; were = r.1; are = subst (λ (l : List Slot). IsPermutation l (freed frame s ∷ r.0)) (sym slots) (subst (λ z. IsPermutation (set old.slots n v) (z ∷ r.0)) v_is r.2); owner = owner };
-      came = came;
-    }
+pub arrives_to : (way : Arrival) (old new : Pooled) (openings n : ℕ) (key : PageKey) (frame : Framed) (s v : Slot) → IsInOrder old.owner old.slots old.came openings → 0 < count_by (is_away n) old.slots → s ≡ get_or old.slots n s → v ≡ returned (brings way) key frame old.came s
+    → frame.number ≡ n → new.slots ≡ set old.slots n v → new.owner ≡ old.owner → new.came ≡ came_after way old.came → Arrives way old key frame new
+arrives_to arrival.Landed old new openings n key frame s v o h is v_is number slots owner came =
+    let m = returned_moves old new openings n is_reading key frame s v o h is v_is number slots owner in
+    record { slot = s; number = m.0; change = m.1; came = came }
+arrives_to arrival.Back old new openings n key frame s v o h is v_is number slots owner came =
+    let m = returned_moves old new openings n is_in_hand key frame s v o h is v_is number slots owner in
+    record { slot = s; number = m.0; change = m.1; came = came }
+arrives_to arrival.Lost old new openings n key frame s v o h is v_is number slots owner came =
+    let m = returned_moves old new openings n (λ x. false) key frame s v o h is v_is number slots owner in
+    record { slot = s; number = m.0; change = m.1; came = came }
 
 -- what asks find
 count_le : {X : Type 0} (test other : X → Bool) (xs : List X) → ((x : X) → test x ≡ true → other x ≡ true) → count_by test xs ≤ count_by other xs

@@ -1,18 +1,20 @@
 -- What each call on a pool changes. This project's own.
-use Rattle.std.specs.Prelude.{◌≡◌, ℕ, ◌+◌, ◌-◌, ◌^◌, min, ◌≤◌, Bool, true, ◌&&◌, if◌then◌else◌, List, ◌∷◌, length, map, Some, None, All, IsPermutation}
+use Rattle.std.specs.Prelude.{◌≡◌, ℕ, ◌+◌, ◌-◌, ◌^◌, min, ◌≤◌, Bool, true, false, ◌&&◌, if◌then◌else◌, List, ◌∷◌, length, map, Some, None, All, IsPermutation}
 use Rattle.std.specs.declared.option.Option.{Option}
 use Rattle.hv_frames.specs.Frames.{Framed}
 use Rattle.hv_pool.specs.declared.key.PageKey.{PageKey}
 use Rattle.hv_pool.specs.declared.slot.Held.{Held}
 use Rattle.hv_pool.specs.declared.slot.Held.TheVariants.{Free, Cached, Reading, InHand}
 use Rattle.hv_pool.specs.declared.slot.Slot.{Slot}
+use Rattle.hv_pool.specs.declared.slot.Arrival.{Arrival}
+use Rattle.hv_pool.specs.declared.slot.Arrival.TheVariants as arrival
 use Rattle.hv_pool.specs.declared.seen.Seen.{Seen}
 use Rattle.hv_pool.specs.declared.seen.Seen.TheVariants as seen
 use Rattle.hv_pool.specs.declared.seen.Ask.{Ask}
 use Rattle.hv_pool.specs.declared.seen.Ask.TheVariants as ask
 use Rattle.hv_pool.specs.Key.{same_key}
 use Rattle.sha2.specs.Sha256.{sha256}
-use Rattle.hv_pool.specs.Slots.{Pooled, is_open, IsAway, with_wait, without_wait}
+use Rattle.hv_pool.specs.Slots.{Pooled, is_open, is_reading, is_in_hand, IsAway, with_wait, without_wait}
 
 -- one frame's place changed, and no other
 pub record Moves (old new : Pooled) (before after : Slot) : Type 0 where
@@ -44,6 +46,10 @@ cached_as came frame s = moved s s.key Cached came s.waits (Some frame)
 -- nobody waits for the key that it stood under any more
 abbrev pub freed : Framed → Slot → Slot
 freed frame s = moved s s.key Free 0 0 (Some frame)
+
+-- the place of a frame that came back with a page: cached where it was away so for this key, else free
+abbrev pub returned : (Held → Bool) → PageKey → Framed → ℕ → Slot → Slot
+returned away key frame came s = if away s.held && same_key key s.key then cached_as came frame s else freed frame s
 
 -- a page for which a session waits no more
 abbrev pub forgotten : ℕ → Slot → Slot
@@ -107,7 +113,7 @@ answer_of (ask.Full frames) = seen.Full
 pub record ComesBack (away : Held → Bool) (old : Pooled) (key : PageKey) (frame : Framed) (new : Pooled) : Type 0 where
   pub slot : Slot
   pub number : slot.number ≡ frame.number
-  pub change : Moves old new slot (if away slot.held && same_key key slot.key then cached_as old.came frame slot else freed frame slot)
+  pub change : Moves old new slot (returned away key frame old.came slot)
   pub came : new.came ≡ min (old.came + 1) (2 ^ 64 - 1)
 
 -- a frame came back without its page
@@ -116,6 +122,24 @@ pub record IsLost (old : Pooled) (frame : Framed) (new : Pooled) : Type 0 where
   pub number : slot.number ≡ frame.number
   pub change : Moves old new slot (freed frame slot)
   pub came : new.came ≡ old.came
+
+-- whether a frame that is away so comes back with a page
+abbrev pub brings : Arrival → Held → Bool
+brings arrival.Landed held = is_reading held
+brings arrival.Back held = is_in_hand held
+brings arrival.Lost held = false
+
+-- the count of pages that came back, after a frame did
+abbrev pub came_after : Arrival → ℕ → ℕ
+came_after arrival.Landed came = min (came + 1) (2 ^ 64 - 1)
+came_after arrival.Back came = min (came + 1) (2 ^ 64 - 1)
+came_after arrival.Lost came = came
+
+-- a frame came back
+abbrev pub Arrives : Arrival → Pooled → PageKey → Framed → Pooled → Type 0
+Arrives arrival.Landed old key frame new = ComesBack is_reading old key frame new
+Arrives arrival.Back old key frame new = ComesBack is_in_hand old key frame new
+Arrives arrival.Lost old key frame new = IsLost old frame new
 
 -- all waits of a session ended
 pub record Forgets (old : Pooled) (who : ℕ) (new : Pooled) : Type 0 where

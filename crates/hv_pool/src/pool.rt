@@ -1,5 +1,5 @@
 // The pool.
-ghost use Rattle.std.specs.Prelude.{◌≡◌, ℕ, ◌+◌, ◌<◌, ◌≤◌, ◌^◌, List, [], map, length, IfSome, IfNone, IfOk, IfErr, IsSome, Some, None, get_or, true, ◌&&◌, if◌then◌else◌, IsPermutation, vec_capacity};
+ghost use Rattle.std.specs.Prelude.{◌≡◌, ℕ, ◌+◌, ◌<◌, ◌≤◌, ◌^◌, List, [], map, length, IfSome, IfNone, IfOk, IfErr, IsSome, Some, None, get_or, true, if◌then◌else◌, IsPermutation, vec_capacity};
 ghost use Rattle.std.specs.List.{count_by, All, range_with_len};
 ghost use Rattle.hv_frames.specs.Frames.{AreAll};
 ghost use Rattle.hv_pool.specs.Made.{AreOfOne, IsMade, IsFilled, empty_slot, here};
@@ -7,13 +7,13 @@ ghost use Rattle.hv_pool.specs.Shape.{HasRoom};
 ghost use Rattle.hv_pool.specs.Order.{IsOrdered};
 ghost use Rattle.sha2.specs.Sha256.{sha256};
 ghost use Rattle.hv_pool.specs.Slots.{seen_at, under, is_open, is_reading, is_in_hand, is_cached, is_gone, stands, IsPool, IsAway};
-ghost use Rattle.hv_pool.specs.Moves.{Asks, answer_of, ComesBack, IsLost, Forgets, Takes, started_by, cached_as, freed, moved, forgotten};
-ghost use Rattle.hv_pool.specs.Key.{same_key};
+ghost use Rattle.hv_pool.specs.Moves.{Asks, answer_of, ComesBack, IsLost, Forgets, Takes, Arrives, brings, returned, started_by, cached_as, freed, moved, forgotten};
+ghost use Rattle.hv_pool.specs.declared.slot.Held.{Held};
 
 use crate::index::{empty_cells, find_under, reindex};
 use crate::key::same;
 use crate::order::{find_open, first_order, reorder};
-use crate::slot::{wait_less, wait_more};
+use crate::slot::{Arrival, wait_less, wait_more};
 use crate::{Ask, Held, PageKey, Seen, Slot};
 use hv_frames::Frame;
 use hv_row::Digest;
@@ -105,23 +105,12 @@ fn start_in(slot: &mut Slot, key: &PageKey, who: u32) -> Frame
     frame
 }
 
-// The page of the key landed in the frame of a place.
-fn land_at(slot: &mut Slot, key: &PageKey, frame: Frame, came: u64)
+// The frame of a place comes back.
+fn put_back(slot: &mut Slot, way: Arrival, key: &PageKey, frame: Frame, came: u64)
     requires { slot.old.frame ≡ None }
-    ensures { slot.new ≡ (if is_reading slot.old.held && same_key key.now slot.old.key then cached_as came frame slot.old else freed frame slot.old) }
+    ensures { slot.new ≡ returned (brings way) key.now frame came slot.old }
 {
-    if matches!(slot.held, Held::Reading { .. }) && same(key, &slot.key) {
-        return cache_at(slot, frame, came);
-    }
-    free_at(slot, frame);
-}
-
-// The frame of a place comes back from a hand, with the page of the key.
-fn back_at(slot: &mut Slot, key: &PageKey, frame: Frame, came: u64)
-    requires { slot.old.frame ≡ None }
-    ensures { slot.new ≡ (if is_in_hand slot.old.held && same_key key.now slot.old.key then cached_as came frame slot.old else freed frame slot.old) }
-{
-    if matches!(slot.held, Held::InHand { .. }) && same(key, &slot.key) {
+    if way.brings(slot.held) && same(key, &slot.key) {
         return cache_at(slot, frame, came);
     }
     free_at(slot, frame);
@@ -262,11 +251,7 @@ impl Pool {
         ensures change { ComesBack is_reading self.old key.now frame self.new }
         ensures pool { IsPool self.old }
     {
-        let n = frame.number() as usize;
-        land_at(&mut self.slots[n], key, frame, self.came);
-        self.openings += openings_of(&self.slots[n]);
-        reorder(self.order.as_mut_slice(), self.slots.as_slice(), n);
-        self.came = self.came.saturating_add(1);
+        self.arrive(Arrival::Landed, key, frame);
     }
 
     /// The frame of a page comes back from a hand.
@@ -276,23 +261,30 @@ impl Pool {
         ensures change { ComesBack is_in_hand self.old key.now frame self.new }
         ensures pool { IsPool self.old }
     {
-        let n = frame.number() as usize;
-        back_at(&mut self.slots[n], key, frame, self.came);
-        self.openings += openings_of(&self.slots[n]);
-        reorder(self.order.as_mut_slice(), self.slots.as_slice(), n);
-        self.came = self.came.saturating_add(1);
+        self.arrive(Arrival::Back, key, frame);
     }
 
     /// The frame comes back without a page; whoever waits for its key waits no more.
-    pub fn lost(&mut self, _key: &PageKey, frame: Frame)
+    pub fn lost(&mut self, key: &PageKey, frame: Frame)
         requires away { IsAway self.old frame }
         ensures change { IsLost self.old frame self.new }
         ensures pool { IsPool self.old }
     {
+        self.arrive(Arrival::Lost, key, frame);
+    }
+
+    // A frame that is away comes back to its place.
+    fn arrive(&mut self, way: Arrival, key: &PageKey, frame: Frame)
+        requires away { IsAway self.old frame }
+        requires digest { (h : Held) → brings way h ≡ true → sha256 frame.bytes ≡ key.now.digest }
+        ensures change { Arrives way self.old key.now frame self.new }
+        ensures pool { IsPool self.old }
+    {
         let n = frame.number() as usize;
-        free_at(&mut self.slots[n], frame);
+        put_back(&mut self.slots[n], way, key, frame, self.came);
         self.openings += openings_of(&self.slots[n]);
         reorder(self.order.as_mut_slice(), self.slots.as_slice(), n);
+        self.came = way.came_after(self.came);
     }
 
     /// Ends all waits of a session.

@@ -1,6 +1,7 @@
 // A frame's place in a pool.
 ghost use Rattle.std.specs.Prelude.{◌≡◌, ◌<◌, ◌≤◌};
 ghost use Rattle.hv_pool.specs.Slots.{under, is_open, with_wait, without_wait};
+ghost use Rattle.hv_pool.specs.Moves.{brings, came_after};
 
 use crate::PageKey;
 use crate::key::same;
@@ -17,6 +18,17 @@ pub enum Held {
     Reading { who: u32 },
     /// It has the page of its key, and that session has it in hand.
     InHand { who: u32 },
+}
+
+/// How a frame that is away comes back.
+#[derive(Clone, Copy, Debug)]
+pub enum Arrival {
+    /// With the page that was to be read into it.
+    Landed,
+    /// With the page that a session had in hand.
+    Back,
+    /// Without a page.
+    Lost,
 }
 
 /// A frame's place, under the number of the frame.
@@ -50,6 +62,29 @@ impl Slot {
             Held::Free => true,
             Held::Cached => self.waits == 0,
             Held::Reading { .. } | Held::InHand { .. } => false,
+        }
+    }
+}
+
+impl Arrival {
+    /// Whether a frame that is away so comes back with a page.
+    pub fn brings(self, held: Held) -> bool
+        ensures { result ≡ brings self held }
+    {
+        match self {
+            Arrival::Landed => matches!(held, Held::Reading { .. }),
+            Arrival::Back => matches!(held, Held::InHand { .. }),
+            Arrival::Lost => false,
+        }
+    }
+
+    /// The count of pages that came back, after this.
+    pub fn came_after(self, came: u64) -> u64
+        ensures { result ≡ came_after self came }
+    {
+        match self {
+            Arrival::Landed | Arrival::Back => came.saturating_add(1),
+            Arrival::Lost => came,
         }
     }
 }

@@ -3,14 +3,14 @@ use Rattle.std.specs.List.{count_by}
 use Rattle.std.proofs.lemmas.List.{get_or-set_same, length-set}
 use Rattle.std.proofs.lemmas.List.Sums.{count_by-le-length}
 use Rattle.hv_pool.specs.declared.slot.Slot.{Slot}
-use Rattle.hv_pool.specs.Slots.{Pooled, is_away, is_open, is_in_hand}
-use Rattle.hv_pool.specs.Moves.{ComesBack}
-use Rattle.hv_pool.proofs.Places.{away_at, at_place, no_slot, return_order, returns_to}
+use Rattle.hv_pool.specs.Slots.{Pooled, is_away, is_open}
+use Rattle.hv_pool.specs.Moves.{Arrives, brings}
+use Rattle.hv_pool.proofs.Places.{away_at, at_place, no_slot, return_order, arrives_to}
 use Rattle.hv_pool.specs.Made.{owner_of}
 use Rattle.hv_pool.specs.Order.{IsOrdered}
 use Rattle.hv_pool.proofs.Ordered.{ordered_back}
 use Rattle.hv_pool.proofs.Indexed.{return_index}
-use Rattle.hv_pool.proofs.pool.Pool.back.Goals as goal
+use Rattle.hv_pool.proofs.pool.Pool.arrive.Goals as goal
 
 pub index_mut-requires : goal.index_mut-requires
 index_mut-requires c =
@@ -19,8 +19,8 @@ index_mut-requires c =
     let h : 0 < count_by (is_away n) slots = subst (λ (m : ℕ). 0 < count_by (is_away m) slots) (sym c.number-n.ensures) (subst (λ (p : Pooled). 0 < count_by (is_away c.args.frame.number) p.slots) (sym c.self.view_is) c.requires.away.away) in
     omega (arith, (away_at _ slots c.self.inside.came c.self.inside.openings n c.self.invariant.0 h no_slot).within, c.self.inside.slots.ok.0)
 
-pub back_at-requires : goal.back_at-requires
-back_at-requires c =
+pub put_back-requires : goal.put_back-requires
+put_back-requires c =
     let slots : List Slot = c.self.inside.slots.items in
     let n = c.number-n.result in
     let h : 0 < count_by (is_away n) slots = subst (λ (m : ℕ). 0 < count_by (is_away m) slots) (sym c.number-n.ensures) (subst (λ (p : Pooled). 0 < count_by (is_away c.args.frame.number) p.slots) (sym c.self.view_is) c.requires.away.away) in
@@ -40,10 +40,10 @@ overflow_add-self c =
     let n = c.number-n.result in
     let h : 0 < count_by (is_away n) slots = subst (λ (m : ℕ). 0 < count_by (is_away m) slots) (sym c.number-n.ensures) (subst (λ (p : Pooled). 0 < count_by (is_away c.args.frame.number) p.slots) (sym c.self.view_is) c.requires.away.away) in
     let own = c.requires.away.owner ∙ ap (λ (p : Pooled). p.owner) (sym c.self.view_is) in
-    let there : c.index.result.now ≡ c.back_at.new.slot = c.index.ensures ∙ get_or-set_same slots n c.back_at.new.slot c.index.result.now (away_at _ slots c.self.inside.came c.self.inside.openings n c.self.invariant.0 h no_slot).within in
-    let opens : c.self.inside.openings + c.openings_of.result ≡ c.self.inside.openings + cond (is_open c.back_at.new.slot) 1 0 = ap (λ (k : ℕ). c.self.inside.openings + k) (c.openings_of.ensures ∙ ap {B = ℕ} (λ z. cond (is_open z) 1 0) there) in
-    let o = return_order _ slots c.self.inside.came 0 c.self.inside.openings (c.self.inside.openings + c.openings_of.result) n is_in_hand c.args.key.now c.args.frame c.index_mut.result.now c.back_at.new.slot c.self.invariant.0 h c.index_mut.ensures.value c.back_at.ensures own (sym c.number-n.ensures) c.requires.digest opens in
-    omega (arith, o.counted, count_by-le-length is_open (set slots n c.back_at.new.slot), o.short)
+    let there : c.index.result.now ≡ c.put_back.new.slot = c.index.ensures ∙ get_or-set_same slots n c.put_back.new.slot c.index.result.now (away_at _ slots c.self.inside.came c.self.inside.openings n c.self.invariant.0 h no_slot).within in
+    let opens : c.self.inside.openings + c.openings_of.result ≡ c.self.inside.openings + cond (is_open c.put_back.new.slot) 1 0 = ap (λ (k : ℕ). c.self.inside.openings + k) (c.openings_of.ensures ∙ ap {B = ℕ} (λ z. cond (is_open z) 1 0) there) in
+    let o = return_order _ slots c.self.inside.came 0 c.self.inside.openings (c.self.inside.openings + c.openings_of.result) n (brings c.args.way) c.args.key.now c.args.frame c.index_mut.result.now c.put_back.new.slot c.self.invariant.0 h c.index_mut.ensures.value c.put_back.ensures own (sym c.number-n.ensures) c.requires.digest opens in
+    omega (arith, o.counted, count_by-le-length is_open (set slots n c.put_back.new.slot), o.short)
 
 pub reorder-requires-clause-within : goal.reorder-requires-clause-within
 reorder-requires-clause-within c =
@@ -51,7 +51,7 @@ reorder-requires-clause-within c =
     let n = c.number-n.result in
     let h : 0 < count_by (is_away n) slots = subst (λ (m : ℕ). 0 < count_by (is_away m) slots) (sym c.number-n.ensures) (subst (λ (p : Pooled). 0 < count_by (is_away c.args.frame.number) p.slots) (sym c.self.view_is) c.requires.away.away) in
     let p = away_at _ slots c.self.inside.came c.self.inside.openings n c.self.invariant.0 h no_slot in
-    subst (λ (l : List Slot). n < length l) (sym c.as_slice.ensures.value) (omega (arith, p.within, length-set slots n c.back_at.new.slot))
+    subst (λ (l : List Slot). n < length l) (sym c.as_slice.ensures.value) (omega (arith, p.within, length-set slots n c.put_back.new.slot))
 
 pub invariant_of-self : goal.invariant_of-self
 invariant_of-self c =
@@ -59,12 +59,12 @@ invariant_of-self c =
     let n = c.number-n.result in
     let h : 0 < count_by (is_away n) slots = subst (λ (m : ℕ). 0 < count_by (is_away m) slots) (sym c.number-n.ensures) (subst (λ (p : Pooled). 0 < count_by (is_away c.args.frame.number) p.slots) (sym c.self.view_is) c.requires.away.away) in
     let own = c.requires.away.owner ∙ ap (λ (p : Pooled). p.owner) (sym c.self.view_is) in
-    let there : c.index.result.now ≡ c.back_at.new.slot = c.index.ensures ∙ get_or-set_same slots n c.back_at.new.slot c.index.result.now (away_at _ slots c.self.inside.came c.self.inside.openings n c.self.invariant.0 h no_slot).within in
-    let opens : c.self.inside.openings + c.openings_of.result ≡ c.self.inside.openings + cond (is_open c.back_at.new.slot) 1 0 = ap (λ (k : ℕ). c.self.inside.openings + k) (c.openings_of.ensures ∙ ap {B = ℕ} (λ z. cond (is_open z) 1 0) there) in (
-      return_order _ slots c.self.inside.came _ c.self.inside.openings _ n is_in_hand c.args.key.now c.args.frame c.index_mut.result.now c.back_at.new.slot c.self.invariant.0 h c.index_mut.ensures.value c.back_at.ensures own (sym c.number-n.ensures) c.requires.digest opens,
-      record { none = c.self.invariant.1.none; wide = omega (arith, c.self.invariant.1.wide, length-set slots n c.back_at.new.slot) },
-      return_index c.self.inside.cells.items c.self.inside.crowded _ slots c.self.inside.came c.self.inside.openings n is_in_hand c.args.key.now c.args.frame c.index_mut.result.now c.back_at.new.slot c.self.invariant.2 c.self.invariant.0 h c.index_mut.ensures.value c.back_at.ensures,
-      ordered_back c.self.inside.order.items c.reorder.new.order c.self.inside.order.len (set slots n c.back_at.new.slot) (c.reorder.ensures.length ∙ ap length c.as_mut_slice.ensures.value) c.self.inside.order.ok.0
+    let there : c.index.result.now ≡ c.put_back.new.slot = c.index.ensures ∙ get_or-set_same slots n c.put_back.new.slot c.index.result.now (away_at _ slots c.self.inside.came c.self.inside.openings n c.self.invariant.0 h no_slot).within in
+    let opens : c.self.inside.openings + c.openings_of.result ≡ c.self.inside.openings + cond (is_open c.put_back.new.slot) 1 0 = ap (λ (k : ℕ). c.self.inside.openings + k) (c.openings_of.ensures ∙ ap {B = ℕ} (λ z. cond (is_open z) 1 0) there) in (
+      return_order _ slots c.self.inside.came _ c.self.inside.openings _ n (brings c.args.way) c.args.key.now c.args.frame c.index_mut.result.now c.put_back.new.slot c.self.invariant.0 h c.index_mut.ensures.value c.put_back.ensures own (sym c.number-n.ensures) c.requires.digest opens,
+      record { none = c.self.invariant.1.none; wide = omega (arith, c.self.invariant.1.wide, length-set slots n c.put_back.new.slot) },
+      return_index c.self.inside.cells.items c.self.inside.crowded _ slots c.self.inside.came c.self.inside.openings n (brings c.args.way) c.args.key.now c.args.frame c.index_mut.result.now c.put_back.new.slot c.self.invariant.2 c.self.invariant.0 h c.index_mut.ensures.value c.put_back.ensures,
+      ordered_back c.self.inside.order.items c.reorder.new.order c.self.inside.order.len (set slots n c.put_back.new.slot) (c.reorder.ensures.length ∙ ap length c.as_mut_slice.ensures.value) c.self.inside.order.ok.0
           (subst (λ (l : List Slot). IsOrdered c.reorder.new.order l) c.as_slice.ensures.value c.reorder.ensures.ordered),
     )
 
@@ -74,6 +74,6 @@ returns-clause-change c =
     let n = c.number-n.result in
     let h : 0 < count_by (is_away n) slots = subst (λ (m : ℕ). 0 < count_by (is_away m) slots) (sym c.number-n.ensures) (subst (λ (p : Pooled). 0 < count_by (is_away c.args.frame.number) p.slots) (sym c.self.view_is) c.requires.away.away) in
     let old : Pooled = record { owner = owner_of c.self.inside.mark.value.items; slots = slots; came = c.self.inside.came } in
-    let new : Pooled = record { owner = owner_of c.self.inside.mark.value.items; slots = set slots n c.back_at.new.slot; came = c.saturating_add-self-inside.result } in
-    subst (λ (p : Pooled). ComesBack is_in_hand p c.args.key.now c.args.frame new) c.self.view_is
-    (returns_to old new c.self.inside.openings n is_in_hand c.args.key.now c.args.frame c.index_mut.result.now c.back_at.new.slot c.self.invariant.0 h c.index_mut.ensures.value c.back_at.ensures (sym c.number-n.ensures) refl refl c.saturating_add-self-inside.ensures)
+    let new : Pooled = record { owner = owner_of c.self.inside.mark.value.items; slots = set slots n c.put_back.new.slot; came = c.came_after-self-inside.result } in
+    subst (λ (p : Pooled). Arrives c.args.way p c.args.key.now c.args.frame new) c.self.view_is
+    (arrives_to c.args.way old new c.self.inside.openings n c.args.key.now c.args.frame c.index_mut.result.now c.put_back.new.slot c.self.invariant.0 h c.index_mut.ensures.value c.put_back.ensures (sym c.number-n.ensures) refl refl c.came_after-self-inside.ensures)
