@@ -1,17 +1,20 @@
 -- The laws of pools.
-use Rattle.std.proofs.Common.{◌≡◌, ◌+◌, ◌<◌, ◌≤◌, ℕ, zero, suc, Bool, true, false, cond, ◌&&◌, ◌||◌, not, nat_eq, nat_lt, if◌then◌else◌, List, [], ◌∷◌, length, refl, sym, ap, ◌∙◌, arith, true≢false}
+use Rattle.std.proofs.Common.{◌≡◌, ◌+◌, ◌<◌, ◌≤◌, ℕ, zero, suc, Bool, true, false, cond, ◌&&◌, ◌||◌, not, nat_eq, nat_lt, if◌then◌else◌, List, [], ◌∷◌, map, length, get_or, refl, sym, ap, ◌∙◌, arith, true≢false}
 use Rattle.std.specs.List.{sum_by, count_by}
+use Rattle.std.specs.Int.{w64}
 use Rattle.std.proofs.lemmas.Bool.{lt-ltb}
+use Rattle.std.proofs.lemmas.Nat.Bits.{bit_at_clear_same, bit_at_clear_other}
+use Rattle.std.proofs.lemmas.List.Elements.{All-map}
 use Rattle.std.proofs.lemmas.List.Sums.{sum_by-cons}
 use Rattle.hv_pool.specs.declared.key.PageKey.{PageKey}
 use Rattle.hv_pool.specs.declared.slot.Held.{Held}
 use Rattle.hv_pool.specs.declared.slot.Held.TheVariants as held
 use Rattle.hv_pool.specs.declared.slot.Slot.{Slot}
 use Rattle.hv_pool.specs.declared.seen.Seen.TheVariants as seen
-use Rattle.hv_pool.specs.Slots.{Pooled, seen_at, is_free, is_cached, is_reading, is_in_hand, is_open, is_gone, is_owed, cached_at, in_hand_at, reading_at}
+use Rattle.hv_pool.specs.Slots.{Pooled, seen_at, is_free, is_cached, is_reading, is_in_hand, is_open, is_gone, is_owed, cached_at, in_hand_at, reading_at, under, waits_at}
 use Rattle.hv_pool.specs.Moves.{Moves, Forgets, forgotten}
 use Rattle.hv_pool.proofs.Places.{weighed, fewer}
-use Rattle.hv_pool.proofs.Made.{count_forgotten}
+use Rattle.hv_pool.proofs.Made.{count_forgotten, none_pass}
 
 none_from : (n : ℕ) → nat_lt 0 n ≡ false → n ≡ 0
 none_from zero e = refl
@@ -74,3 +77,20 @@ moves_keep old new before after m test keeps = omega (arith, moves_weigh old new
 
 pub forgets_keep : (old new : Pooled) (who : ℕ) → Forgets old who new → (test : Slot → Bool) → ((s : Slot) → test (forgotten who s) ≡ test s) → count_by test new.slots ≡ count_by test old.slots
 forgets_keep old new who f test same = ap (count_by test) f.slots ∙ count_forgotten who test old.slots same
+
+and_false : (b : Bool) → b && false ≡ false
+and_false true = refl
+and_false false = refl
+
+-- a session whose waits end waits for no page
+pub forget_ends : (old new : Pooled) (who : ℕ) → who < 64 → Forgets old who new → (key : PageKey) → count_by (waits_at who key) new.slots ≡ 0
+forget_ends old new who within f key =
+    ap (count_by (waits_at who key)) f.slots
+    ∙ none_pass (waits_at who key) (map (forgotten who) old.slots) (All-map (λ (s : Slot). waits_at who key s ≡ false) (forgotten who) old.slots (λ k d inside. ended (get_or old.slots k d)))
+  where
+    ended : (s : Slot) → waits_at who key (forgotten who s) ≡ false
+    ended s = ap (λ (b : ℕ). under key s && nat_eq b 1) (bit_at_clear_same w64 s.waits who within) ∙ and_false (under key s)
+
+-- and each other session for those for which it waited
+pub forget_leaves : (old new : Pooled) (who other : ℕ) → who < 64 → other < 64 → ¬ (other ≡ who) → Forgets old who new → (key : PageKey) → count_by (waits_at other key) new.slots ≡ count_by (waits_at other key) old.slots
+forget_leaves old new who other within inside apart f key = forgets_keep old new who f (waits_at other key) (λ s. ap (λ (b : ℕ). under key s && nat_eq b 1) (bit_at_clear_other w64 s.waits who within other inside apart))
