@@ -14,6 +14,6 @@ mod words;
 pub use fault::{BytesFault, ReadScriptFault};
 pub use law::one_reading;
 pub use reading::{PIECE_BYTES, read_script};
-pub use script::{MOST_BYTES, MOST_STATEMENTS, read_statements};
+pub use script::{MAX_SCRIPT_BYTES, MAX_STATEMENTS, read_statements};
 pub use statement::MAX_IMPORT_LINES;
 pub use words::{Options, read_words};

@@ -7,7 +7,7 @@ ghost use Rattle.hv_script.specs.Reading.{IsRead};
 ghost use Rattle.hv_script.specs.Script.{HasOneSession};
 
 use crate::fault::ReadScriptFault;
-use crate::script::{MOST_BYTES, read_statements};
+use crate::script::{MAX_SCRIPT_BYTES, read_statements};
 use hv_io::Source;
 use hv_model::Script;
 use std::alloc::{AllocError, Global};
@@ -37,8 +37,8 @@ fn read_all<S: Source>(alloc: Global, source: &mut S) -> Result<Vec<u8>, ReadScr
 {
     let mut piece = zeros(alloc, PIECE_BYTES)?;
     let mut all = Vec::new(alloc);
-    while all.len() <= MOST_BYTES {
-        let room = PIECE_BYTES.min(MOST_BYTES + 1 - all.len());
+    while all.len() <= MAX_SCRIPT_BYTES {
+        let room = PIECE_BYTES.min(MAX_SCRIPT_BYTES + 1 - all.len());
         if read_piece(source, &mut piece[..room], &mut all)? == 0 {
             return Ok(all);
         }

@@ -11,10 +11,10 @@ use hv_row::{Bytes, Listed};
 use std::alloc::{AllocError, Global};
 
 /// The most bytes of a script.
-pub const MOST_BYTES: usize = 67_108_864;
+pub const MAX_SCRIPT_BYTES: usize = 67_108_864;
 
 /// The most statements of a script.
-pub const MOST_STATEMENTS: usize = 1_000_000;
+pub const MAX_STATEMENTS: usize = 1_000_000;
 
 /// The script that the bytes are. `Err` is their first fault, told at a byte counted from 0, or `Memory` for want of memory at any point.
 pub fn read_statements(alloc: Global, bytes: &[u8]) -> Result<Script, BytesFault>
@@ -37,7 +37,7 @@ pub fn read_statements(alloc: Global, bytes: &[u8]) -> Result<Script, BytesFault
                 lines,
                 after,
             } => {
-                if statements.len() == MOST_STATEMENTS {
+                if statements.len() == MAX_STATEMENTS {
                     return Err(fault_at(FaultName::TooManyStatements, bytes, from));
                 }
                 statements.push(main_statement(alloc, number, text, lines)?)?;
@@ -54,8 +54,8 @@ fn test_bytes(bytes: &[u8]) -> Result<(), BytesFault>
     ensures utf8 { IfOk result (λ _. IsUtf8 bytes.now) }
     ensures fault { IfErr result (λ fault. IsFaultOf bytes.now fault) }
 {
-    if bytes.len() > MOST_BYTES {
-        return Err(told(FaultName::TooLong, MOST_BYTES));
+    if bytes.len() > MAX_SCRIPT_BYTES {
+        return Err(told(FaultName::TooLong, MAX_SCRIPT_BYTES));
     }
     match str::from_utf8(bytes) {
         Ok(_) => Ok(()),

@@ -1,7 +1,7 @@
 // The script of most statements and the longest, and what is told past them.
 use crate::made::{blanks, full, is_fault, read_pieces, statements};
 use hv_model::{FaultName, Script, ScriptFault};
-use hv_script::{MOST_BYTES, MOST_STATEMENTS, ReadScriptFault, read_statements};
+use hv_script::{MAX_SCRIPT_BYTES, MAX_STATEMENTS, ReadScriptFault, read_statements};
 use std::alloc::{AllocError, Global};
 use std::test::Fail;
 
@@ -13,7 +13,7 @@ fn count(script: &Script) -> Option<usize> {
 fn most_statements_are_read(rt: HostRuntime) -> Result<(), Fail> {
     let text = full(rt.alloc(), b";\n")?;
     let script = read_statements(rt.alloc(), text.as_slice())?;
-    assert!(rt; count(&script) == Some(MOST_STATEMENTS));
+    assert!(rt; count(&script) == Some(MAX_STATEMENTS));
     Ok(())
 }
 
@@ -58,7 +58,7 @@ fn a_fault_before_too_many_statements_is_told(rt: HostRuntime) -> Result<(), Fai
 
 // The fault of a source of so many blanks.
 fn fault_of_blanks(alloc: Global, len: usize) -> Result<Option<ReadScriptFault>, AllocError> {
-    Ok(read_pieces(alloc, blanks(alloc, len)?, MOST_BYTES, None).err())
+    Ok(read_pieces(alloc, blanks(alloc, len)?, MAX_SCRIPT_BYTES, None).err())
 }
 
 const TOO_LONG: ReadScriptFault = ReadScriptFault::Found(ScriptFault {
@@ -68,19 +68,19 @@ const TOO_LONG: ReadScriptFault = ReadScriptFault::Found(ScriptFault {
 
 #[test]
 fn the_longest_source_is_read(rt: HostRuntime) -> Result<(), Fail> {
-    assert!(rt; fault_of_blanks(rt.alloc(), MOST_BYTES)?.is_none());
+    assert!(rt; fault_of_blanks(rt.alloc(), MAX_SCRIPT_BYTES)?.is_none());
     Ok(())
 }
 
 #[test]
 fn a_longer_source_is_refused(rt: HostRuntime) -> Result<(), Fail> {
-    assert!(rt; fault_of_blanks(rt.alloc(), MOST_BYTES + 2)? == Some(TOO_LONG));
+    assert!(rt; fault_of_blanks(rt.alloc(), MAX_SCRIPT_BYTES + 2)? == Some(TOO_LONG));
     Ok(())
 }
 
 #[test]
 fn too_long_is_told_before_no_utf8(rt: HostRuntime) -> Result<(), Fail> {
-    let mut text = blanks(rt.alloc(), MOST_BYTES - 1)?;
+    let mut text = blanks(rt.alloc(), MAX_SCRIPT_BYTES - 1)?;
     text.push(b'\xFF')?;
     assert!(rt; is_fault(rt.alloc(), text.as_slice(), FaultName::NotUtf8, 67_108_863));
     text.push(b'a')?;

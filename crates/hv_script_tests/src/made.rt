@@ -3,7 +3,7 @@ ghost use Rattle.std.specs.Prelude.{◌<◌};
 
 use hv_io::MemSource;
 use hv_model::{FaultName, Script, ScriptFault, Statement};
-use hv_script::{BytesFault, MOST_STATEMENTS, ReadScriptFault, read_script, read_statements};
+use hv_script::{BytesFault, MAX_STATEMENTS, ReadScriptFault, read_script, read_statements};
 use std::alloc::{AllocError, Global};
 
 // The statements of a script, where it has one session and one phase.
@@ -38,7 +38,7 @@ pub fn read_pieces(
 // As many statements as a script has, with this behind them.
 pub fn full(alloc: Global, behind: &[u8]) -> Result<Vec<u8>, AllocError> {
     let mut script = Vec::new(alloc);
-    for _ in 0..MOST_STATEMENTS {
+    for _ in 0..MAX_STATEMENTS {
         script.extend_from_slice(b"a;")?;
     }
     script.extend_from_slice(behind)?;

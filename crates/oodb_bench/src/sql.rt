@@ -8,7 +8,7 @@ use std::alloc::{AllocError, Global};
 const MAX_TEXT_BYTES: usize = 67_108_864;
 
 /// The most items of a statement.
-const MOST_ITEMS: u32 = 128;
+const MAX_ITEMS: u32 = 128;
 
 /// What is done with a text.
 #[derive(Clone, Copy, Debug, PartialEq, Eq)]
@@ -161,11 +161,11 @@ fn text_of(alloc: Global, kind: Kind, size: usize) -> Result<Vec<u8>, AllocError
     Ok(text)
 }
 
-// Puts a statement of `MOST_ITEMS` items, with as many blanks before each item but the first as fit into so many bytes.
+// Puts a statement of `MAX_ITEMS` items, with as many blanks before each item but the first as fit into so many bytes.
 fn push_items(text: &mut Vec<u8>, size: usize) -> Result<(), AllocError> {
     let blanks = (size.saturating_sub(15) / 127).saturating_sub(2);
     text.extend_from_slice(b"SELECT a")?;
-    for _ in 1..MOST_ITEMS {
+    for _ in 1..MAX_ITEMS {
         text.push(b',')?;
         let len = text.len().saturating_add(blanks);
         text.resize(len, b' ')?;

@@ -5,12 +5,12 @@ use Rattle.hv_model.specs.declared.script.FaultName.TheVariants.{TooManyStatemen
 use Rattle.hv_script.proofs.Behind.{next_shorter, takes_next, statements_push, reads_to, one_too_many, told_at}
 use Rattle.hv_script.proofs.script.read_statements.Goals as goal
 
-pub returns-then-len-eq-MOST_STATEMENTS-clause-fault : goal.returns-then-len-eq-MOST_STATEMENTS-clause-fault
-returns-then-len-eq-MOST_STATEMENTS-clause-fault c =
+pub returns-then-len-eq-MAX_STATEMENTS-clause-fault : goal.returns-then-len-eq-MAX_STATEMENTS-clause-fault
+returns-then-len-eq-MAX_STATEMENTS-clause-fault c =
     let full : length c.loop-alloc.statements ≡ most_statements = omega arith in
     let front = reads_to c.args.bytes.now c.loop-alloc.rest.now c.loop-alloc.statements
     c.in_ok-test_bytes.ensures.short c.in_ok-test_bytes.ensures.utf8 c.loop-alloc.invariant.read c.loop-alloc.invariant.few in
-    told_at TooManyStatements c.args.bytes.now c.in-Found.from.now _ c.fault_at-then-len-eq-MOST_STATEMENTS.ensures
+    told_at TooManyStatements c.args.bytes.now c.in-Found.from.now _ c.fault_at-then-len-eq-MAX_STATEMENTS.ensures
     (λ byte at. one_too_many c.args.bytes.now c.loop-alloc.rest.now _ _ _ _ byte front full c.in-Found.ensures at)
 
 pub loop-alloc-smaller : goal.loop-alloc-smaller
