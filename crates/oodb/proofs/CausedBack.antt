@@ -18,7 +18,7 @@ use Rattle.hv_report.specs.Law.{InRange}
 use Rattle.hv_script.specs.Script.{HasOneSession}
 use Rattle.oodb.specs.Known.{Known}
 use Rattle.oodb.specs.Told.{report_of}
-use Rattle.oodb.specs.Outcome.{HandsOver, ReportsOn, status_of}
+use Rattle.oodb.specs.Outcome.{WholeOrCut, ReportsOn, status_of}
 use Rattle.oodb.specs.Reads.{PortSeen, port_seen}
 use Rattle.oodb.specs.Causes.{RoseBy, RoseWith, is_read, is_write, failed_so, DamagesStand, CausedSoFar, IsCalm, OnlyMemoryFails, AreCaused}
 use Rattle.oodb.proofs.Running.{report_over}
@@ -104,7 +104,7 @@ pub reports_back : {P : Type 0} {File : Type 0} (tells : Bool) (s : Script) (his
     → HasOneSession s → ((max : ℕ) → Legal s max (Known tells s history (sink.reading port).landings) history (replies ∷ []))
     → CausedSoFar tells s history replies (port_seen sink port)
     → out ≡ went dev_before → closed ≡ port → dev_after ≡ came_back out (sink.reading closed) (sink.write_faults closed)
-    → HandsOver (report_text s history (replies ∷ [])) (status_of replies) now before after → InRange (report_of history replies)
+    → WholeOrCut (report_text s history (replies ∷ [])) (status_of replies) now before after → InRange (report_of history replies)
     → ReportsOn tells s now before after dev_before dev_after
 reports_back tells s history replies sink port closed now before after dev_before out dev_after one legal so_far left same back over in_range chosen from to script calm =
     let caused : (causes : AreCaused tells s history replies dev_before dev_after) × (causes.landed ≡ (sink.reading port).landings)

@@ -1,4 +1,4 @@
--- A report that was handed over.
+-- A report that was written.
 use Rattle.std.proofs.Common.{◌≡◌, ℕ, List, [], ◌∷◌, Result, OnOk, IfErr, subst, refl, sym, ◌∙◌, codes, arith}
 use Rattle.std.proofs.lemmas.List.{append-nil}
 use Rattle.hv_io.specs.Bytes.{Seen}
@@ -11,18 +11,18 @@ use Rattle.hv_model.specs.Report.{report_text}
 use Rattle.hv_report.specs.Text.{text_of}
 use Rattle.hv_report.proofs.Whole.{one_report}
 use Rattle.oodb.specs.declared.status.Status.{Status}
-use Rattle.oodb.specs.Lines.{Handed}
+use Rattle.oodb.specs.Lines.{Written}
 use Rattle.oodb.specs.Told.{report_of, OneHistory}
-use Rattle.oodb.specs.Outcome.{HandsOver}
+use Rattle.oodb.specs.Outcome.{WholeOrCut}
 
 -- a text that was written, or a front of it, under another of its names
-pub hands_report : (written text : List ℕ) (full whole now : Status) (outcome : Result (Unit {0}) PutAll) (before after : Seen)
+pub report_written : (written text : List ℕ) (full whole now : Status) (outcome : Result (Unit {0}) PutAll) (before after : Seen)
     → written ≡ text → full ≡ whole → OnOk outcome (TookAll before written after) → IfErr outcome (λ cause. Stopped before written after cause)
-    → ((handed : List ℕ) (start now_seen : Seen) → Handed outcome start handed now_seen → HandsOver handed full now start now_seen)
-    → HandsOver text whole now before after
-hands_report written text full whole now outcome before after same status all part over =
-    subst (λ t. HandsOver t whole now before after) same
-    (subst (λ f. HandsOver written f now before after) status (over written before after (record { all = all; part = part })))
+    → ((some : List ℕ) (start now_seen : Seen) → Written outcome start some now_seen → WholeOrCut some full now start now_seen)
+    → WholeOrCut text whole now before after
+report_written written text full whole now outcome before after same status all part over =
+    subst (λ t. WholeOrCut t whole now before after) same
+    (subst (λ f. WholeOrCut written f now before after) status (over written before after (record { all = all; part = part })))
 
 -- the text of a report of one session is that of the script's
 pub plain_text : (script : Script) (history : List Entry) (replies : List Reply) → script.sessions ≡ codes "main" ∷ []

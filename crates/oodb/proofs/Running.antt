@@ -8,7 +8,7 @@ use Rattle.hv_model.specs.Script.{IsFault}
 use Rattle.oodb.specs.declared.status.Status.{Status}
 use Rattle.oodb.specs.declared.status.Status.TheVariants as status
 use Rattle.oodb.specs.Lines.{fault_line, word_line}
-use Rattle.oodb.specs.Outcome.{Around, HandsOver, IsWordLine, IsFaultLine, IsReport, TookReport, Answers, IsReported, status_of, is_failed}
+use Rattle.oodb.specs.Outcome.{Around, WholeOrCut, IsWordLine, IsFaultLine, IsReport, TookReport, Answers, IsReported, status_of, is_failed}
 
 -- a report has one of two statuses
 pub reported_status : (replies : List Reply) → IsReported (status_of replies)
@@ -28,9 +28,9 @@ module _ {File : Type 0} (tells : Bool) (chosen : Result Options ℕ) (before af
   report_taken now (inl fine) answers = subst (λ s. TookReport tells chosen s before after) (sym fine) (at_status now status.Fine fine answers)
   report_taken now (inr some) answers = subst (λ s. TookReport tells chosen s before after) (sym some) (at_status now status.SomeFailed some answers)
 
-  -- the line of a word was handed over
+  -- the line of a word was written
   pub word_over : (i : ℕ) (now : Status) → chosen ≡ Err i → after.source ≡ before.source → after.device ≡ before.device
-      → HandsOver (word_line i) status.Words now before.sink after.sink → Answers tells chosen now before after
+      → WholeOrCut (word_line i) status.Words now before.sink after.sink → Answers tells chosen now before after
   word_over i now is unread still over =
       let line : IsWordLine chosen (word_line i) before after = record { word = i; is = is; unread = unread; still = still; line = refl } in
       elim over [
@@ -41,7 +41,7 @@ module _ {File : Type 0} (tells : Bool) (chosen : Result Options ℕ) (before af
   -- the line of a fault was
   pub fault_over : (name : FaultName) (byte : ℕ) (now : Status) → IsOk chosen → after.source.faults ≡ before.source.faults
       → IfSome before.source.left (λ bytes. IsFault bytes name byte) → after.device ≡ before.device
-      → HandsOver (fault_line name byte) status.Script now before.sink after.sink → Answers tells chosen now before after
+      → WholeOrCut (fault_line name byte) status.Script now before.sink after.sink → Answers tells chosen now before after
   fault_over name byte now words calm fault still over =
       let line : IsFaultLine chosen (fault_line name byte) before after
       = record { words = words; calm = calm; name = name; byte = byte; fault = fault; still = still; line = refl } in
@@ -52,7 +52,7 @@ module _ {File : Type 0} (tells : Bool) (chosen : Result Options ℕ) (before af
 
   -- a report was
   pub report_over : (text : List ℕ) (full now : Status) → (report : IsReport tells chosen full text before after)
-      → HandsOver text full now before.sink after.sink → Answers tells chosen now before after
+      → WholeOrCut text full now before.sink after.sink → Answers tells chosen now before after
   report_over text full now report over = elim over [
     | inl whole ↦ at_status full now (sym whole.status) (taken_report full (subst IsReported (sym report.status) (reported_status report.replies)) (record { text = text; is = report; took = whole.took }))
     | inr cut ↦ at_status status.SinkFault now (sym cut.status) (record { text = text; may = inr (inr (full, report)); cause = cut.cause; stopped = cut.stopped })

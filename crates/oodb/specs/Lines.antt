@@ -24,7 +24,7 @@ word_line i = codes "fault word " ++ decimal i ++ codes "\n"
 abbrev pub fault_line : FaultName → ℕ → List ℕ
 fault_line name byte = codes "fault " ++ fault_name name ++ codes " " ++ decimal byte ++ codes "\n"
 
--- a text was handed over since the start: all of it, or a prefix up to a fault of the sink
-pub record Handed (outcome : Result (Unit {0}) PutAll) (start : Seen) (text : List ℕ) (now : Seen) : Type 0 where
+-- a text was written since the start: all of it, or a prefix up to a fault of the sink
+pub record Written (outcome : Result (Unit {0}) PutAll) (start : Seen) (text : List ℕ) (now : Seen) : Type 0 where
   pub all : OnOk outcome (TookAll start text now)
   pub part : IfErr outcome (λ cause. Stopped start text now cause)

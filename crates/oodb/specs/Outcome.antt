@@ -141,7 +141,7 @@ pub record CutShort {File : Type 0} (tells : Bool) (chosen : Result Options ℕ)
   pub cause : PutAll
   pub stopped : Stopped before.sink text after.sink cause
 
--- a text was handed over: all of it was taken and this is the status, or a prefix up to a fault of the sink
+-- a text was written: all of it was taken and this is the status, or a prefix up to a fault of the sink
 pub record Whole (text : List ℕ) (full now : Status) (before after : Seen) : Type 0 where
   pub status : now ≡ full
   pub took : TookAll before text after
@@ -151,8 +151,8 @@ pub record Cut (text : List ℕ) (now : Status) (before after : Seen) : Type 0 w
   pub cause : PutAll
   pub stopped : Stopped before text after cause
 
-abbrev pub HandsOver : List ℕ → Status → Status → Seen → Seen → Type 0
-HandsOver text full now before after = Whole text full now before after ⊎ Cut text now before after
+abbrev pub WholeOrCut : List ℕ → Status → Status → Seen → Seen → Type 0
+WholeOrCut text full now before after = Whole text full now before after ⊎ Cut text now before after
 
 -- what a run made of its words, its source, its sink and its device, whose files tell what they hold or don't
 abbrev pub Answers : {File : Type 0} → Bool → Result Options ℕ → Status → Around File → Around File → Type 0

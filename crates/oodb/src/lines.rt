@@ -2,7 +2,7 @@
 ghost use Rattle.std.specs.Prelude.{◌≡◌};
 ghost use Rattle.hv_io.specs.Seen.{seen};
 ghost use Rattle.hv_io.specs.Printing.{Prints};
-ghost use Rattle.oodb.specs.Lines.{fault_name, word_line, fault_line, Handed};
+ghost use Rattle.oodb.specs.Lines.{fault_name, word_line, fault_line, Written};
 
 use hv_io::{Printer, PutAll, Sink};
 use hv_model::{FaultName, ScriptFault};
@@ -43,7 +43,7 @@ fn print_fault<K: Sink>(printer: &mut Printer, out: &mut K, fault: ScriptFault)
 
 /// Writes which word is at fault, counted from 1. Takes no memory.
 pub fn put_word_line<K: Sink>(out: &mut K, word: u32) -> Result<(), PutAll>
-    ensures { Handed result (seen K.Sink out.old) (word_line word) (seen K.Sink out.new) }
+    ensures { Written result (seen K.Sink out.old) (word_line word) (seen K.Sink out.new) }
 {
     let mut printer = Printer::new();
     print_word(&mut printer, out, word);
@@ -52,7 +52,7 @@ pub fn put_word_line<K: Sink>(out: &mut K, word: u32) -> Result<(), PutAll>
 
 /// Writes which fault the script has, and at which byte. Takes no memory.
 pub fn put_fault_line<K: Sink>(out: &mut K, fault: ScriptFault) -> Result<(), PutAll>
-    ensures { Handed result (seen K.Sink out.old) (fault_line fault.name fault.byte) (seen K.Sink out.new) }
+    ensures { Written result (seen K.Sink out.old) (fault_line fault.name fault.byte) (seen K.Sink out.new) }
 {
     let mut printer = Printer::new();
     print_fault(&mut printer, out, fault);

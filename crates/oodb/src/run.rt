@@ -9,11 +9,11 @@ ghost use Rattle.hv_model.specs.Report.{report_text};
 ghost use Rattle.hv_model.specs.declared.script.Script.{Script};
 ghost use Rattle.hv_report.specs.Law.{InRange};
 ghost use Rattle.hv_script.specs.Script.{HasOneSession};
-ghost use Rattle.oodb.specs.Lines.{Handed};
+ghost use Rattle.oodb.specs.Lines.{Written};
 ghost use Rattle.oodb.specs.Reads.{port_seen, fresh_port};
 ghost use Rattle.oodb.specs.Causes.{DeviceKept, IsCalm};
 ghost use Rattle.oodb.specs.Told.{report_of};
-ghost use Rattle.oodb.specs.Outcome.{source_seen, around, Answers, TookReport, TookWordLine, TookFaultLine, SourceFailed, CutShort, NoMemory, ReportsOn, HandsOver, IsReported, status_of, is_failed};
+ghost use Rattle.oodb.specs.Outcome.{source_seen, around, Answers, TookReport, TookWordLine, TookFaultLine, SourceFailed, CutShort, NoMemory, ReportsOn, WholeOrCut, IsReported, status_of, is_failed};
 ghost use Rattle.oodb.specs.Statuses.{TellsFault, IsNoScript, SinkRose, SinkKept, SinkCalm, IsAnswered};
 ghost use Rattle.oodb.specs.declared.status.Status.TheVariants as status;
 
@@ -70,7 +70,7 @@ fn run_words<S: Source, K: Sink, D: Device>(
     ensures { Answers D.Port.File.tells (options false words.now) result (around S.Source K.Sink D.Device script.old out.old dev.old) (around S.Source K.Sink D.Device script.new out.new dev.new) }
 {
     match read_words(false, words) {
-        Err(word) => handed(put_word_line(out, word), Status::Words),
+        Err(word) => written_status(put_word_line(out, word), Status::Words),
         Ok(options) => run_script(alloc, options, script, out, dev),
     }
 }
@@ -87,7 +87,7 @@ fn run_script<S: Source, K: Sink, D: Device>(
 {
     match read_script(alloc, source) {
         Ok(script) => report(alloc, &script, out, dev),
-        Err(ReadScriptFault::Found(fault)) => handed(put_fault_line(out, fault), Status::Script),
+        Err(ReadScriptFault::Found(fault)) => written_status(put_fault_line(out, fault), Status::Script),
         Err(ReadScriptFault::Source) => Status::SourceFault,
         Err(ReadScriptFault::Memory) => Status::Memory,
     }
@@ -111,7 +111,7 @@ fn report<K: Sink, D: Device>(alloc: Global, script: &Script, out: &mut K, dev: 
     };
     let outcome = answer_all(alloc, script, phase, room, &mut access);
     dev.back(access.close());
-    hand_over(blank, outcome, out)
+    write_outcome(blank, outcome, out)
 }
 
 // A port with room for one read, and the frame that it fills.
@@ -131,13 +131,13 @@ fn open_access<D: Device>(alloc: Global, dev: &mut D) -> Result<PageAccess<D::Po
 }
 
 // Writes the report on an outcome of a script of one session.
-fn hand_over<K: Sink>(blank: Blank, outcome: Outcome, out: &mut K) -> Status
-    ensures over { (script : Script) → HasOneSession script → HandsOver (report_text script outcome.history.items (outcome.replies.items ∷ [])) (status_of outcome.replies.items) result (seen K.Sink out.old) (seen K.Sink out.new) }
+fn write_outcome<K: Sink>(blank: Blank, outcome: Outcome, out: &mut K) -> Status
+    ensures over { (script : Script) → HasOneSession script → WholeOrCut (report_text script outcome.history.items (outcome.replies.items ∷ [])) (status_of outcome.replies.items) result (seen K.Sink out.old) (seen K.Sink out.new) }
     ensures in_range { InRange (report_of outcome.history.items outcome.replies.items) }
 {
     let full = full_status(outcome.replies.as_slice());
     let report = blank.filled(outcome);
-    handed(write_report(out, &report), full)
+    written_status(write_report(out, &report), full)
 }
 
 // The status of a report that is taken whole.
@@ -163,9 +163,9 @@ fn is_failed(reply: &Reply) -> bool
     matches!(reply, Reply::Failed { .. })
 }
 
-// The status of a text that was handed over: the full one where all of it was taken.
-fn handed(outcome: Result<(), PutAll>, full: Status) -> Status
-    ensures { (text : List ℕ) (before after : Seen) → Handed outcome before text after → HandsOver text full result before after }
+// The status of a text that was written: the full one where all of it was taken.
+fn written_status(outcome: Result<(), PutAll>, full: Status) -> Status
+    ensures { (text : List ℕ) (before after : Seen) → Written outcome before text after → WholeOrCut text full result before after }
 {
     match outcome {
         Ok(()) => full,
