@@ -1,2 +1,2 @@
 pub mod AllOut
-pub mod InMemory
+pub mod UnderWay

@@ -1,5 +1,5 @@
 pub mod Reading
 pub mod Fault
 pub mod Past
-pub mod InMemory
+pub mod Reads
 pub mod Files

@@ -8,6 +8,7 @@ mod files;
 mod memory;
 mod past;
 mod port;
+mod reads;
 mod sink;
 
 pub use device::{Device, Order};

@@ -5,7 +5,7 @@ ghost use Rattle.hv_dev.specs.Reading.{none_back, unread, went};
 use super::file::StoredFile;
 use super::port::FilePort;
 use super::writer::Writer;
-use crate::memory::Landed;
+use crate::reads::Landed;
 use crate::{Device, Order, PageSink, Past};
 use std::alloc::{AllocError, Global};
 use std::rt::Files;
@@ -75,8 +75,8 @@ impl<R: Files + Clone + Drop> Device for FileDevice<R> {
     fn back(&mut self, port: FilePort<R>) {
         let faults = self.faults.saturating_add(port.read_faults);
         self.faults = faults.saturating_add(port.write_faults);
-        self.submits = self.submits.saturating_add(port.submits);
-        self.most = self.most.max(port.most);
+        self.submits = self.submits.saturating_add(port.queue.submits);
+        self.most = self.most.max(port.queue.most);
         self.landings.extend(&port.landings);
         self.out = self.out.saturating_sub(1);
     }

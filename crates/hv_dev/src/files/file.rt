@@ -1,10 +1,9 @@
 // A sealed file of the operating system, and the reads of it.
-ghost use Rattle.std.specs.Prelude.{◌≡◌, ◌++◌, ◌∷◌, [], true, false, OnOk};
-ghost use Rattle.hv_io.specs.Counts.{Rose};
+ghost use Rattle.std.specs.Prelude.{◌≡◌, [], true, false, OnOk};
 ghost use Rattle.hv_dev.specs.Files.{ReadPage, FetchedPage};
-ghost use Rattle.hv_dev.specs.Reading.{landing_of};
+ghost use Rattle.hv_dev.specs.Reads.{Ends};
 
-use crate::memory::{Held, Landed};
+use crate::reads::{Held, Landed};
 use crate::{PageFile, Past, Reaped};
 use std::io::{Read, Seek, SeekFrom};
 use std::rt::Files;
@@ -54,14 +53,8 @@ impl Held<StoredFile> {
         faults: &mut u64,
         landings: &mut Past<Landed<StoredFile>>,
     ) -> Reaped
-        ensures tag { result.tag ≡ self.tag }
-        ensures owner { result.frame.owner ≡ self.owner }
-        ensures number { result.frame.number ≡ self.frame }
-        ensures noted { result.landed ≡ true → landings.new ≡ landings.old ++ landing_of self result.frame.bytes ∷ [] }
+        ensures ends { Ends ⟦<StoredFile as PageFile>⟧.tells ⟦<StoredFile as PageFile>⟧.pages self landings.old landings.new faults.old faults.new result }
         ensures read { result.landed ≡ true → FetchedPage R.File.stream_position R.File.remaining self.page result.frame.bytes }
-        ensures calm { result.landed ≡ true → faults.new ≡ faults.old }
-        ensures lost { result.landed ≡ false → landings.new ≡ landings.old }
-        ensures rose { result.landed ≡ false → Rose faults.old faults.new }
     {
         let (tag, file, page, mut frame) = self.take_apart();
         let landed = file.read(rt, page, frame.bytes_mut()).is_ok();

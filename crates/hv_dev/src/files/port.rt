@@ -1,16 +1,14 @@
 // A port over files in a folder.
-ghost use Rattle.std.specs.Prelude.{◌≡◌, ℕ, ◌<◌, ◌≤◌, List, [], length, Some, IfOk, false};
-ghost use Rattle.std.specs.VecDeque.{deque_capacity};
+ghost use Rattle.std.specs.Prelude.{◌≡◌, ◌<◌, [], length, IfOk, false};
 ghost use Rattle.hv_dev.specs.Fault.{IsCaused};
 
 use super::file::StoredFile;
 use super::writer::Writer;
-use crate::memory::{Held, Landed};
+use crate::reads::{Landed, Queue};
 use crate::sink::whole;
 use crate::{PageSink, Past, Port, PutFault, Reaped};
 use hv_frames::Frame;
 use std::alloc::{AllocError, Global};
-use std::collections::VecDeque;
 use std::rt::Files;
 use std::sync::Arc;
 
@@ -22,33 +20,26 @@ pub struct FilePort<R: Files> {
     is_given_up: bool,
     pub(super) write_faults: u64,
     pub(super) read_faults: u64,
-    held: VecDeque<Held<StoredFile>>,
-    room: u32,
-    pub(super) submits: u64,
-    pub(super) most: u32,
+    pub(super) queue: Queue<StoredFile>,
     pub(super) landings: Past<Landed<StoredFile>>,
-    ghost has_room: { room ≤ deque_capacity held },
 }
 
 impl<R: Files + Drop> FilePort<R> {
     /// A port with that room, whose files are written so.
     pub fn new(alloc: Global, writer: Writer<R>, room: u32) -> Result<FilePort<R>, AllocError>
         ensures writer { IfOk result (λ port. port.writer ≡ writer) }
-        ensures room { IfOk result (λ port. port.room ≡ room) }
+        ensures room { IfOk result (λ port. port.queue.room ≡ room) }
         ensures open { IfOk result (λ port. (port.is_given_up ≡ false) × (port.pages ≡ []) × (port.write_faults ≡ 0)) }
-        ensures unread { IfOk result (λ port. (port.held.items ≡ []) × (port.submits ≡ 0) × (port.most ≡ 0) × (port.read_faults ≡ 0) × (port.landings ≡ [])) }
+        ensures unread { IfOk result (λ port. (port.queue.held.items ≡ []) × (port.queue.submits ≡ 0) × (port.queue.most ≡ 0) × (port.read_faults ≡ 0) × (port.landings ≡ [])) }
     {
-        let held = VecDeque::with_capacity(alloc, room as usize)?;
+        let queue = Queue::new(alloc, room)?;
         Ok(FilePort {
             writer,
             pages: Past::new(),
             is_given_up: false,
             write_faults: 0,
             read_faults: 0,
-            held,
-            room,
-            submits: 0,
-            most: 0,
+            queue,
             landings: Past::new(),
         })
     }
@@ -57,9 +48,9 @@ impl<R: Files + Drop> FilePort<R> {
 impl<R: Files + Drop> PageSink for FilePort<R> {
     type File = StoredFile;
 
-    ghost use Rattle.hv_dev.specs.InMemory.{open_pages};
+    ghost use Rattle.hv_dev.specs.Reads.{open_pages};
 
-    ghost reading = { λ it. record { in_flight = it.held.items; room = it.room; submits = it.submits; most = it.most; read_faults = it.read_faults; landings = it.landings } };
+    ghost reading = { λ it. record { in_flight = it.queue.held.items; room = it.queue.room; submits = it.queue.submits; most = it.queue.most; read_faults = it.read_faults; landings = it.landings } };
 
     ghost write_faults = { λ it. it.write_faults };
 
@@ -106,24 +97,20 @@ impl<R: Files + Drop> Port for FilePort<R> {
         ensures faults { ⟦<FilePort<R> as PageSink>⟧.write_faults self.new ≡ ⟦<FilePort<R> as PageSink>⟧.write_faults self.old }
         ensures kept { ⟦<FilePort<R> as PageSink>⟧.written self.new ≡ ⟦<FilePort<R> as PageSink>⟧.written self.old }
     {
-        prove!(self.held.len() < self.room as usize);
-        let held = Held::new(file, number, frame, tag);
-        self.held.push_back_reserved(held);
-        self.submits = self.submits.saturating_add(1);
-        self.most = self.most.max(self.held.len() as u32);
+        self.queue.submit(file, number, frame, tag);
     }
 
     fn reap(&mut self) -> Reaped {
-        let held = self.held.pop_front().unwrap();
+        let held = self.queue.take(0);
         held.fetch(&self.writer.rt, &mut self.read_faults, &mut self.landings)
     }
 
     fn count_submits(&self) -> u64 {
-        self.submits
+        self.queue.submits
     }
 
     fn count_most(&self) -> u32 {
-        self.most
+        self.queue.most
     }
 }
 

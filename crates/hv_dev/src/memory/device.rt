@@ -3,9 +3,9 @@ ghost use Rattle.std.specs.Prelude.{◌≡◌};
 ghost use Rattle.hv_dev.specs.Reading.{none_back};
 
 use super::file::MemFile;
-use super::landed::Landed;
 use super::plan::Plan;
 use super::port::MemPort;
+use crate::reads::Landed;
 use crate::{Device, Order, Past};
 use std::alloc::{AllocError, Global};
 
@@ -55,8 +55,8 @@ impl<P: Plan> Device for Memory<P> {
 
     fn back(&mut self, port: MemPort<P>) {
         self.plan.add(&port.plan);
-        self.submits = self.submits.saturating_add(port.submits);
-        self.most = self.most.max(port.most);
+        self.submits = self.submits.saturating_add(port.queue.submits);
+        self.most = self.most.max(port.queue.most);
         self.landings.extend(&port.landings);
         self.out = self.out.saturating_sub(1);
     }

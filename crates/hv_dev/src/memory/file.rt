@@ -1,9 +1,11 @@
-// A sealed file in memory.
+// A sealed file in memory, and the reads of it.
 ghost use Rattle.std.specs.Prelude.{◌≡◌, length};
 ghost use Rattle.hv_dev.specs.Reading.{IsPageOf};
+ghost use Rattle.hv_dev.specs.Reads.{Ends};
 
 use super::plan::Plan;
-use crate::PageFile;
+use crate::reads::{Held, Landed};
+use crate::{PageFile, Past, Reaped};
 use std::marker::PhantomData;
 
 /// A sealed file in memory, of a device with such a plan.
@@ -39,4 +41,21 @@ impl<P: Plan> PageFile for MemFile<P> {
     ghost tells = { P.is_true };
 
     ghost pages = { λ it. it.pages.items };
+}
+
+impl<P: Plan> Held<MemFile<P>> {
+    /// Ends the read: it brings its page and is noted, or the plan has it fail.
+    pub fn land(self, plan: &mut P, landings: &mut Past<Landed<MemFile<P>>>) -> Reaped
+        ensures ends { Ends ⟦<MemFile<P> as PageFile>⟧.tells ⟦<MemFile<P> as PageFile>⟧.pages self landings.old landings.new (P.read_faults plan.old) (P.read_faults plan.new) result }
+        ensures kept { P.write_faults plan.new ≡ P.write_faults plan.old }
+    {
+        let (tag, file, page, mut frame) = self.take_apart();
+        let landed = !plan.fails_read();
+        if landed {
+            file.bring(page, frame.bytes_mut());
+            plan.spoil(frame.bytes_mut());
+            landings.note(&Landed::new(tag, &*file, page, &frame));
+        }
+        Reaped { tag, frame, landed }
+    }
 }

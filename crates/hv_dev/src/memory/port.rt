@@ -1,17 +1,14 @@
 // A port in memory.
-ghost use Rattle.std.specs.Prelude.{◌≡◌, ℕ, ◌<◌, ◌≤◌, List, [], length, Some, IfOk, false};
-ghost use Rattle.std.specs.VecDeque.{deque_capacity};
+ghost use Rattle.std.specs.Prelude.{◌≡◌, ◌<◌, [], length, IfOk, false};
 
 use super::draw::Draw;
 use super::file::MemFile;
-use super::held::Held;
-use super::landed::Landed;
 use super::plan::Plan;
+use crate::reads::{Landed, Queue};
 use crate::sink::whole;
 use crate::{Order, PageSink, Past, Port, PutFault, Reaped};
 use hv_frames::Frame;
 use std::alloc::{AllocError, Global};
-use std::collections::VecDeque;
 use std::mem;
 use std::sync::Arc;
 
@@ -21,13 +18,9 @@ pub struct MemPort<P> {
     pub(super) plan: P,
     pages: Vec<[u8; 4096]>,
     is_given_up: bool,
-    held: VecDeque<Held<MemFile<P>>>,
-    room: u32,
-    pub(super) submits: u64,
-    pub(super) most: u32,
+    pub(super) queue: Queue<MemFile<P>>,
     pub(super) landings: Past<Landed<MemFile<P>>>,
     draw: Draw,
-    ghost has_room: { room ≤ deque_capacity held },
 }
 
 impl<P: Plan> MemPort<P> {
@@ -40,19 +33,16 @@ impl<P: Plan> MemPort<P> {
         room: u32,
     ) -> Result<MemPort<P>, AllocError>
         ensures plan { IfOk result (λ port. port.plan ≡ plan) }
-        ensures room { IfOk result (λ port. port.room ≡ room) }
+        ensures room { IfOk result (λ port. port.queue.room ≡ room) }
         ensures open { IfOk result (λ port. (port.is_given_up ≡ false) × (port.pages.items ≡ [])) }
-        ensures unread { IfOk result (λ port. (port.held.items ≡ []) × (port.submits ≡ 0) × (port.most ≡ 0) × (port.landings ≡ [])) }
+        ensures unread { IfOk result (λ port. (port.queue.held.items ≡ []) × (port.queue.submits ≡ 0) × (port.queue.most ≡ 0) × (port.landings ≡ [])) }
     {
-        let held = VecDeque::with_capacity(alloc, room as usize)?;
+        let queue = Queue::new(alloc, room)?;
         Ok(MemPort {
             plan,
             pages: Vec::new(alloc),
             is_given_up: false,
-            held,
-            room,
-            submits: 0,
-            most: 0,
+            queue,
             landings: Past::new(),
             draw: Draw::new(order, number),
         })
@@ -62,9 +52,9 @@ impl<P: Plan> MemPort<P> {
 impl<P: Plan> PageSink for MemPort<P> {
     type File = MemFile<P>;
 
-    ghost use Rattle.hv_dev.specs.InMemory.{open_pages};
+    ghost use Rattle.hv_dev.specs.Reads.{open_pages};
 
-    ghost reading = { λ it. record { in_flight = it.held.items; room = it.room; submits = it.submits; most = it.most; read_faults = P.read_faults it.plan; landings = it.landings } };
+    ghost reading = { λ it. record { in_flight = it.queue.held.items; room = it.queue.room; submits = it.queue.submits; most = it.queue.most; read_faults = P.read_faults it.plan; landings = it.landings } };
 
     ghost write_faults = { λ it. P.write_faults it.plan };
 
@@ -115,24 +105,20 @@ impl<P: Plan> Port for MemPort<P> {
         ensures faults { ⟦<MemPort<P> as PageSink>⟧.write_faults self.new ≡ ⟦<MemPort<P> as PageSink>⟧.write_faults self.old }
         ensures kept { ⟦<MemPort<P> as PageSink>⟧.written self.new ≡ ⟦<MemPort<P> as PageSink>⟧.written self.old }
     {
-        prove!(self.held.len() < self.room as usize);
-        let held = Held::new(file, number, frame, tag);
-        self.held.push_back_reserved(held);
-        self.submits = self.submits.saturating_add(1);
-        self.most = self.most.max(self.held.len() as u32);
+        self.queue.submit(file, number, frame, tag);
     }
 
     fn reap(&mut self) -> Reaped {
-        let at = self.draw.pick(self.held.len());
-        let held = self.held.remove(at).unwrap();
+        let at = self.draw.pick(self.queue.len());
+        let held = self.queue.take(at);
         held.land(&mut self.plan, &mut self.landings)
     }
 
     fn count_submits(&self) -> u64 {
-        self.submits
+        self.queue.submits
     }
 
     fn count_most(&self) -> u32 {
-        self.most
+        self.queue.most
     }
 }

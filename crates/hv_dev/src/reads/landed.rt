@@ -16,7 +16,7 @@ pub struct Landed<F> {
 
 impl<F> Model for Landed<F> {
     ghost use Rattle.hv_dev.specs.Reading.{Landing};
-    ghost use Rattle.hv_dev.specs.InMemory.{landing_code};
+    ghost use Rattle.hv_dev.specs.Reads.{landing_code};
 
     ghost Value = { Landing F };
 
