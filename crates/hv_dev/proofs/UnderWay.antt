@@ -1,5 +1,5 @@
 -- The steps of a port.
-use Rattle.std.proofs.Common.{◌≡◌, ℕ, Bool, ◌+◌, ◌<◌, List, ◌∷◌, ◌++◌, length, take, drop, get_or, add-one, Option, Some, None, IsSome, refl, rules}
+use Rattle.std.proofs.Common.{◌≡◌, ℕ, Bool, ◌+◌, ◌<◌, List, ◌∷◌, ◌++◌, length, take, drop, get_or, add-one}
 use Rattle.std.proofs.Math.Seq.{split_at}
 use Rattle.hv_dev.specs.Reading.{Flight, Reading, Reaps}
 use Rattle.hv_dev.specs.Reads.{Taken, Ends}
@@ -30,8 +30,3 @@ reaps tells pages before after flight it taken room submits most ends = record {
   true_page = ends.true_page;
   lost = ends.lost;
 }
-
--- a file that was open and took a page is open
-pub still_open : {X : Type 0} (before now : Option X) (more : X → X) → IsSome before → ((x : X) → before ≡ Some x → now ≡ Some (more x)) → IsSome now
-still_open None now more ok step = cc
-still_open (Some x) now more ok step = let is = step x refl in rw is (search rules)
