@@ -17,4 +17,4 @@ pub use files::FileDevice;
 pub use memory::{CleanDevice, Fail, FailKind, MemDevice, Rotten};
 pub use past::Past;
 pub use port::{Port, Reaped};
-pub use sink::{PageSink, PutFault};
+pub use sink::{PageSink, PutFault, as_page};

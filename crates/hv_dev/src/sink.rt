@@ -55,8 +55,8 @@ pub trait PageSink: Drop {
         ensures kept { reading self.new ≡ reading self.old };
 }
 
-// A page as an array.
-pub(crate) fn whole(page: &[u8]) -> &[u8; 4096]
+/// A page as an array, in place.
+pub fn as_page(page: &[u8]) -> &[u8; 4096]
     requires { length page.now ≡ 4096 }
     ensures { result.now ≡ page.now }
 {

@@ -5,8 +5,7 @@ ghost use Rattle.hv_dev.specs.Fault.{IsCaused};
 use super::file::StoredFile;
 use super::writer::Writer;
 use crate::reads::{Landed, Queue};
-use crate::sink::whole;
-use crate::{PageSink, Past, Port, PutFault, Reaped};
+use crate::{PageSink, Past, Port, PutFault, Reaped, as_page};
 use hv_frames::Frame;
 use std::alloc::{AllocError, Global};
 use std::rt::Files;
@@ -62,7 +61,7 @@ impl<R: Files + Drop> PageSink for FilePort<R> {
             count(fault, &mut self.write_faults);
             return Err(fault);
         }
-        self.pages.note(whole(page));
+        self.pages.note(as_page(page));
         Ok(())
     }
 

@@ -5,8 +5,7 @@ use super::draw::Draw;
 use super::file::MemFile;
 use super::plan::Plan;
 use crate::reads::{Landed, Queue};
-use crate::sink::whole;
-use crate::{Order, PageSink, Past, Port, PutFault, Reaped};
+use crate::{Order, PageSink, Past, Port, PutFault, Reaped, as_page};
 use hv_frames::Frame;
 use std::alloc::{AllocError, Global};
 use std::mem;
@@ -65,7 +64,7 @@ impl<P: Plan> PageSink for MemPort<P> {
             self.is_given_up = true;
             return Err(PutFault::Failed);
         }
-        match self.pages.push(*whole(page)) {
+        match self.pages.push(*as_page(page)) {
             Ok(()) => Ok(()),
             Err(_) => {
                 self.is_given_up = true;
