@@ -1,5 +1,5 @@
 -- One value on, in the loops that read and write rows: i columns and `at` bytes are behind it.
-use Rattle.std.proofs.Common.{◌≡◌, ℕ, ◌+◌, ◌<◌, ◌≤◌, List, [], ◌∷◌, ◌++◌, length, get_or, take, drop, Option, Some, None, refl, sym, ap, subst, ◌∙◌, append_assoc, arith}
+use Rattle.std.proofs.Common.{◌≡◌, ℕ, ◌+◌, ◌-◌, ◌<◌, ◌≤◌, List, [], ◌∷◌, ◌++◌, length, get_or, take, drop, Option, Some, None, refl, sym, ap, subst, ◌∙◌, append_assoc, arith}
 use Rattle.std.proofs.lemmas.List.{length-take, append-nil, drop-drop, drop_more, take_more, drop_all, take_all, take-append-le}
 use Rattle.std.proofs.Math.Seq.{take-add}
 use Rattle.hv_row.specs.declared.value.Value.{Value}
@@ -10,19 +10,26 @@ use Rattle.hv_row.specs.declared.schema.Column.{Column}
 use Rattle.hv_row.specs.Value.{FitsType, type_of, value_bytes}
 use Rattle.hv_row.specs.Row.{RowFits, row_bytes}
 use Rattle.hv_row.specs.Spelling.{value_length, behind, fault_from}
-use Rattle.hv_row.proofs.Reading.{join}
+use Rattle.hv_row.proofs.Reading.{join, rest_of}
 
 -- ---- reading
 
-pub fault_here : (cs : List Column) (i at : ℕ) (c : Column) (bytes : List ℕ) → i < length cs → c ≡ get_or cs i c → value_length c.kind (drop at bytes) ≡ None → fault_from at (drop i cs) (drop at bytes) ≡ Some at
+-- the column of a loop's turn, among those of the schema that the loop goes through
+pub column_at : (items cs : List Column) (i : ℕ) (c : Column) → items ≡ cs → i < length items → c ≡ get_or items i c → (i < length cs) × (c ≡ get_or cs i c)
+column_at items cs i c same lt is = subst (λ (x : List Column). (i < length x) × (c ≡ get_or x i c)) same (lt, is)
+
+-- what a loop was told of the bytes that are left, `&bytes[at..]`, tells of the row
+pub fault_here : (cs : List Column) (i at : ℕ) (c : Column) (bytes : List ℕ) → i < length cs → c ≡ get_or cs i c → None ≡ value_length c.kind (take (length bytes - at) (drop at bytes)) → fault_from at (drop i cs) (drop at bytes) ≡ Some at
 unfolding fault_from
-fault_here cs i at c bytes lt is e =
+fault_here cs i at c bytes lt is given =
+    let e : value_length c.kind (drop at bytes) ≡ None = rw (rest_of at bytes) at (sym given) in
     let next : drop i cs ≡ c ∷ drop (i + 1) cs = drop_more cs i c lt ∙ ap (λ (x : Column). x ∷ drop (i + 1) cs) (sym is) in
     ap (λ (x : List Column). fault_from at x (drop at bytes)) next ∙ ap (λ (o : Option ℕ). behind at o (λ m. fault_from (at + m) (drop (i + 1) cs) (drop m (drop at bytes)))) e
 
-pub fault_on : (cs : List Column) (i at : ℕ) (c : Column) (bytes : List ℕ) (n : ℕ) → i < length cs → c ≡ get_or cs i c → value_length c.kind (drop at bytes) ≡ Some n → fault_from at (drop i cs) (drop at bytes) ≡ fault_from (at + n) (drop (i + 1) cs) (drop (at + n) bytes)
+pub fault_on : (cs : List Column) (i at : ℕ) (c : Column) (bytes : List ℕ) (n : ℕ) → i < length cs → c ≡ get_or cs i c → Some n ≡ value_length c.kind (take (length bytes - at) (drop at bytes)) → fault_from at (drop i cs) (drop at bytes) ≡ fault_from (at + n) (drop (i + 1) cs) (drop (at + n) bytes)
 unfolding fault_from
-fault_on cs i at c bytes n lt is e =
+fault_on cs i at c bytes n lt is given =
+    let e : value_length c.kind (drop at bytes) ≡ Some n = rw (rest_of at bytes) at (sym given) in
     let next : drop i cs ≡ c ∷ drop (i + 1) cs = drop_more cs i c lt ∙ ap (λ (x : Column). x ∷ drop (i + 1) cs) (sym is) in
     ap (λ (x : List Column). fault_from at x (drop at bytes)) next
     ∙ ap (λ (o : Option ℕ). behind at o (λ m. fault_from (at + m) (drop (i + 1) cs) (drop m (drop at bytes)))) e
@@ -55,8 +62,9 @@ pub record IsRead (cs : List Column) (bytes : List ℕ) (i at : ℕ) (row : List
   pub fits : RowFits (take i cs) row
   pub spelt : take at bytes ≡ row_bytes (take i cs) row
 
-pub read_on : (cs : List Column) (bytes : List ℕ) (i at : ℕ) (row : List Value) (c : Column) (n : ℕ) (v : Value) → i < length cs → c ≡ get_or cs i c → IsRead cs bytes i at row → FitsType c.kind v → take n (drop at bytes) ≡ value_bytes c.kind v → IsRead cs bytes (i + 1) (at + n) (row ++ v ∷ [])
-read_on cs bytes i at row c n v lt is read fit spelt =
+pub read_on : (cs : List Column) (bytes : List ℕ) (i at : ℕ) (row : List Value) (c : Column) (n : ℕ) (v : Value) → i < length cs → c ≡ get_or cs i c → IsRead cs bytes i at row → FitsType c.kind v → take n (take (length bytes - at) (drop at bytes)) ≡ value_bytes c.kind v → IsRead cs bytes (i + 1) (at + n) (row ++ v ∷ [])
+read_on cs bytes i at row c n v lt is read fit given =
+    let spelt : take n (drop at bytes) ≡ value_bytes c.kind v = rw (rest_of at bytes) at given in
     let next : take (i + 1) cs ≡ take i cs ++ c ∷ [] = take_more cs i c lt ∙ ap (λ (x : Column). take i cs ++ x ∷ []) (sym is) in
     record {
       fits = rw next (fits_more (take i cs) row c v read.fits fit);

@@ -1,20 +1,12 @@
-use Rattle.std.proofs.Common.{rules, ◌≡◌, ◌<◌, ◌≤◌, None, Some, length, get_or, drop, sym, ◌∙◌, arith, refl}
-use Rattle.hv_row.specs.Spelling.{value_length}
-use Rattle.hv_row.proofs.Reading.{rest_of, row_found, spelling_alone, is_fault}
-use Rattle.hv_row.proofs.Steps.{fault_here, fault_on, fault_left, fault_none}
+use Rattle.std.proofs.Common.{rules, ◌≤◌, length, sym, ◌∙◌, arith, refl}
+use Rattle.hv_row.proofs.Reading.{row_found, spelling_alone, is_fault}
+use Rattle.hv_row.proofs.Steps.{column_at, fault_here, fault_on, fault_left, fault_none}
 use Rattle.hv_row.proofs.spelling.check.Goals as goal
 
 pub returns-in-None-clause-fault : goal.returns-in-None-clause-fault
 returns-in-None-clause-fault c =
-    let cs = c.args.schema.now in
-    let bytes = c.args.bytes.now in
-    let i = c.loop-column.column-index in
-    let at = c.loop-column.at in
-    let column = c.column-item.result in
-    let lt : i < length cs = rw c.columns-column-items.ensures.same at c.loop-column-test.true in
-    let is : column ≡ get_or cs i column = rw c.columns-column-items.ensures.same at c.column-item.is in
-    let e : value_length column.kind (drop at bytes) ≡ None = rw (rest_of at bytes) at (sym c.in-None.ensures.same) in
-    sym c.loop-column.invariant.fault ∙ fault_here cs i at column bytes lt is e
+    let place = column_at _ c.args.schema.now c.loop-column.column-index c.column-item.result c.columns-column-items.ensures.same c.loop-column-test.true c.column-item.is in
+    sym c.loop-column.invariant.fault ∙ fault_here c.args.schema.now c.loop-column.column-index c.loop-column.at c.column-item.result c.args.bytes.now place.0 place.1 c.in-None.ensures.same
 
 pub returns-in-None-clause-spelt : goal.returns-in-None-clause-spelt
 returns-in-None-clause-spelt c =
@@ -22,18 +14,10 @@ returns-in-None-clause-spelt c =
 
 pub loop-column-preserved : goal.loop-column-preserved
 loop-column-preserved c =
-    let cs = c.args.schema.now in
-    let bytes = c.args.bytes.now in
-    let i = c.loop-column.column-index in
-    let at = c.loop-column.at in
-    let column = c.column-item.result in
-    let n = c.in-Some.length in
-    let lt : i < length cs = rw c.columns-column-items.ensures.same at c.loop-column-test.true in
-    let is : column ≡ get_or cs i column = rw c.columns-column-items.ensures.same at c.column-item.is in
-    let e : value_length column.kind (drop at bytes) ≡ Some n = rw (rest_of at bytes) at (sym c.in-Some.ensures.same) in
+    let place = column_at _ c.args.schema.now c.loop-column.column-index c.column-item.result c.columns-column-items.ensures.same c.loop-column-test.true c.column-item.is in
     record {
       within = search rules;
-      fault = sym (fault_on cs i at column bytes n lt is e) ∙ c.loop-column.invariant.fault;
+      fault = sym (fault_on c.args.schema.now c.loop-column.column-index c.loop-column.at c.column-item.result c.args.bytes.now c.in-Some.length place.0 place.1 c.in-Some.ensures.same) ∙ c.loop-column.invariant.fault;
     }
 
 pub returns-then-at-bytes-clause-fault : goal.returns-then-at-bytes-clause-fault

@@ -1,21 +1,13 @@
-use Rattle.std.proofs.Common.{rules, ◌≡◌, ◌<◌, ◌≤◌, ◌++◌, ◌∷◌, [], None, Some, length, get_or, take, drop, sym, ◌∙◌, arith}
-use Rattle.hv_row.specs.Value.{FitsType, value_bytes}
+use Rattle.std.proofs.Common.{rules, ◌≡◌, ◌≤◌, ◌++◌, ◌∷◌, [], Some, length, drop, sym, ◌∙◌, arith}
 use Rattle.hv_row.specs.Spelling.{value_length}
 use Rattle.hv_row.proofs.Reading.{IsBytes, IsBytes-drop, rest_of, value_alone, spelling_same, is_fault}
-use Rattle.hv_row.proofs.Steps.{fault_here, fault_on, fault_left, fault_none, read_on, read_all}
+use Rattle.hv_row.proofs.Steps.{column_at, fault_here, fault_on, fault_left, fault_none, read_on, read_all}
 use Rattle.hv_row.proofs.spelling.decode.Goals as goal
 
 pub returns-in_default-clause-fault : goal.returns-in_default-clause-fault
 returns-in_default-clause-fault c =
-    let cs = c.args.schema.now in
-    let bytes = c.args.bytes.now in
-    let i = c.loop-column.column-index in
-    let at = c.loop-column.at in
-    let column = c.column-item.result in
-    let lt : i < length cs = rw c.columns-columns.ensures.same at c.loop-column-test.true in
-    let is : column ≡ get_or cs i column = rw c.columns-columns.ensures.same at c.column-item.is in
-    let e : value_length column.kind (drop at bytes) ≡ None = rw (rest_of at bytes) at (sym c.in_default.ensures.same) in
-    sym c.loop-column.invariant.fault ∙ fault_here cs i at column bytes lt is e
+    let place = column_at _ c.args.schema.now c.loop-column.column-index c.column-item.result c.columns-columns.ensures.same c.loop-column-test.true c.column-item.is in
+    sym c.loop-column.invariant.fault ∙ fault_here c.args.schema.now c.loop-column.column-index c.loop-column.at c.column-item.result c.args.bytes.now place.0 place.1 c.in_default.ensures.same
 
 pub returns-in_default-clause-only : goal.returns-in_default-clause-only
 returns-in_default-clause-only c =
@@ -38,16 +30,12 @@ loop-column-preserved c =
     let column = c.column-item.result in
     let n = c.in-Some.length in
     let v = c.in_ok-value_of.field-0 in
-    let lt : i < length cs = rw c.columns-columns.ensures.same at c.loop-column-test.true in
-    let is : column ≡ get_or cs i column = rw c.columns-columns.ensures.same at c.column-item.is in
-    let e : value_length column.kind (drop at bytes) ≡ Some n = rw (rest_of at bytes) at (sym c.in-Some.ensures.same) in
-    let fits : FitsType column.kind v = c.in_ok-value_of.ensures.0 in
-    let spelt : take n (drop at bytes) ≡ value_bytes column.kind v = rw (rest_of at bytes) at c.in_ok-value_of.ensures.1 in
+    let place = column_at _ cs i column c.columns-columns.ensures.same c.loop-column-test.true c.column-item.is in
     let pushed : c.push.new.self ≡ c.loop-column.row ++ v ∷ [] = c.in_ok-push.ensures.ok in
     record {
       within = search rules;
-      fault = sym (fault_on cs i at column bytes n lt is e) ∙ c.loop-column.invariant.fault;
-      read = rw pushed (read_on cs bytes i at c.loop-column.row column n v lt is c.loop-column.invariant.read fits spelt);
+      fault = sym (fault_on cs i at column bytes n place.0 place.1 c.in-Some.ensures.same) ∙ c.loop-column.invariant.fault;
+      read = rw pushed (read_on cs bytes i at c.loop-column.row column n v place.0 place.1 c.loop-column.invariant.read c.in_ok-value_of.ensures.0 c.in_ok-value_of.ensures.1);
     }
 
 pub returns-then-at-bytes-clause-fault : goal.returns-then-at-bytes-clause-fault
