@@ -4,10 +4,11 @@ use Rattle.std.specs.Prelude.{IsUtf8}
 use Rattle.std.specs.Int.{w64, from_be_bytes, to_be_bytes, cast_signed, cast_unsigned}
 use Rattle.std.specs.Str.{is_utf8}
 use Rattle.std.proofs.Math.Facts.{sfits_to_z, Fits-of_z}
-use Rattle.std.proofs.lemmas.Bool.{cases_lt, ltb-false, le-ltb, lt-ltb}
+use Rattle.std.proofs.lemmas.Bool.{cases_lt, false_from_ne_true, ltb-false, le-ltb, lt-ltb}
 use Rattle.std.proofs.lemmas.Int.{to_z-of_z, of_z-to_z}
 use Rattle.std.proofs.lemmas.List.{take_at, drop_at, take-append-drop, length-append, length-take, length-drop, get_or-drop, get_or-take, get_or_past, append-nil, take_all}
 use Rattle.std.proofs.lemmas.Nat.{be_bytes_8, from_be_bytes-to_be_bytes_8}
+use Rattle.std.proofs.lemmas.Option.{same_Some, cond_some}
 use Rattle.std.proofs.lemmas.Str.{IsUtf8-from_is_utf8, is_utf8-from_IsUtf8}
 use Rattle.hv_row.specs.declared.value.Value.{Value}
 use Rattle.hv_row.specs.declared.value.Value.TheVariants.{Int, Text}
@@ -24,7 +25,7 @@ IsBytes bytes = (i : ℕ) → get_or bytes i 0 < 256
 pub IsBytes-drop : (n : ℕ) (bytes : List ℕ) → IsBytes bytes → IsBytes (drop n bytes)
 IsBytes-drop n bytes h i = rw get_or-drop (h (n + i))
 
-IsBytes-take : (n : ℕ) (bytes : List ℕ) → IsBytes bytes → IsBytes (take n bytes)
+pub IsBytes-take : (n : ℕ) (bytes : List ℕ) → IsBytes bytes → IsBytes (take n bytes)
 IsBytes-take n bytes h i =
     elim (cases_lt i n) [
       | inl lt ↦ rw (get_or-take n bytes i 0 lt) (h i)
@@ -55,16 +56,9 @@ pub record IsFront (k : ColType) (bytes : List ℕ) (n : ℕ) : Type 0 where
   pub spelt : take n bytes ≡ value_bytes k value
   pub within : n ≤ length bytes
 
-guarded : (b : Bool) (o : Option ℕ) (n : ℕ) → cond b None o ≡ Some n → (b ≡ false) × (o ≡ Some n)
+pub guarded : (b : Bool) (o : Option ℕ) (n : ℕ) → cond b None o ≡ Some n → (b ≡ false) × (o ≡ Some n)
 guarded true o n e = absurd cc
 guarded false o n e = (refl, e)
-
-kept : (b : Bool) (o : Option ℕ) (n : ℕ) → cond b o None ≡ Some n → (b ≡ true) × (o ≡ Some n)
-kept true o n e = (refl, e)
-kept false o n e = absurd cc
-
-same_some : (m n : ℕ) → Some m ≡ Some n → m ≡ n
-same_some m n e = cc
 
 front_at : (k : ColType) (bytes : List ℕ) (m n : ℕ) → m ≡ n → IsFront k bytes m → IsFront k bytes n
 front_at k bytes m n e front = subst (λ (x : ℕ). IsFront k bytes x) e front
@@ -75,7 +69,7 @@ value_found kind.Int bytes n fits e =
     let g = guarded (ltb (length bytes) 8) (Some 8) n e in
     let long : 8 ≤ length bytes = ltb-false _ _ g.0 in
     let front = IsBytes-take 8 bytes fits in
-    front_at kind.Int bytes 8 n (same_some 8 n g.1) (record {
+    front_at kind.Int bytes 8 n (same_Some 8 n g.1) (record {
       value = number (take 8 bytes);
       fits = number_fits (take 8 bytes) front;
       spelt = sym (number_bytes (take 8 bytes) front (omega (arith, length-take 8 bytes)));
@@ -85,9 +79,9 @@ value_found kind.Text [] n fits e = absurd cc
 value_found kind.Text (m ∷ rest) n fits e =
     let g = guarded (ltb (length rest) m) (cond (is_utf8 (take m rest)) (Some (suc m)) None) n e in
     let long : m ≤ length rest = ltb-false _ _ g.0 in
-    let u = kept (is_utf8 (take m rest)) (Some (suc m)) n g.1 in
+    let u = cond_some (is_utf8 (take m rest)) (suc m) n g.1 in
     let len : length (take m rest) ≡ m = omega (arith, length-take m rest) in
-    front_at kind.Text (m ∷ rest) (suc m) n (same_some (suc m) n u.1) (record {
+    front_at kind.Text (m ∷ rest) (suc m) n u.1 (record {
       value = Text (take m rest);
       fits = record { short = omega (arith, fits 0); utf8 = IsUtf8-from_is_utf8 (take m rest) u.0 };
       spelt = ap (λ (x : ℕ). x ∷ take m rest) (sym len);
@@ -112,10 +106,6 @@ collapsed : (b : Bool) → cond b no_length no_length ≡ no_length
 collapsed true = refl
 collapsed false = refl
 
-not_true : (b : Bool) → (b ≡ true → ⊥) → b ≡ false
-not_true true h = absurd (h refl)
-not_true false h = refl
-
 -- the value of `&s[n..]`
 pub rest_of : {X : Type 0} (n : ℕ) (s : List X) → take (length s - n) (drop n s) ≡ drop n s
 rest_of n s = take_all (length s - n) (drop n s) (omega (arith, length-drop n s))
@@ -135,7 +125,7 @@ pub text_none : (bytes : List ℕ) → 1 ≤ length bytes → get_or bytes 0 0 �
 unfolding value_length
 text_none [] some short never = absurd (omega arith)
 text_none (m ∷ rest) some short never =
-    let utf8 : is_utf8 (take m rest) ≡ false = not_true _ (λ is. never (record { short = omega (arith, length-take m rest); utf8 = IsUtf8-from_is_utf8 (take m rest) is })) in
+    let utf8 : is_utf8 (take m rest) ≡ false = false_from_ne_true _ (λ is. never (record { short = omega (arith, length-take m rest); utf8 = IsUtf8-from_is_utf8 (take m rest) is })) in
     rw utf8 (collapsed (ltb (length rest) m))
 
 pub text_found : (bytes : List ℕ) → IsBytes bytes → value_length kind.Text bytes ≡ Some (length bytes) → IsTextValue (drop 1 bytes) × (bytes ≡ length (drop 1 bytes) ∷ drop 1 bytes)
@@ -143,8 +133,8 @@ unfolding value_length
 text_found [] fits e = absurd cc
 text_found (m ∷ rest) fits e =
     let g = guarded (ltb (length rest) m) (cond (is_utf8 (take m rest)) (Some (suc m)) None) (suc (length rest)) e in
-    let u = kept (is_utf8 (take m rest)) (Some (suc m)) (suc (length rest)) g.1 in
-    let all : m ≡ length rest = omega (arith, same_some (suc m) (suc (length rest)) u.1) in
+    let u = cond_some (is_utf8 (take m rest)) (suc m) (suc (length rest)) g.1 in
+    let all : m ≡ length rest = omega (arith, u.1) in
     let whole : take m rest ≡ rest = take_all m rest (omega arith) in
     let utf8 : IsUtf8 rest = subst (λ (x : List ℕ). IsUtf8 x) whole (IsUtf8-from_is_utf8 (take m rest) u.0) in
     (record { short = omega (arith, fits 0); utf8 = utf8 }, ap (λ (x : ℕ). x ∷ rest) all)

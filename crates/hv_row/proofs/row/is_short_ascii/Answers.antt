@@ -1,12 +1,8 @@
-use Rattle.std.proofs.Common.{◌≡◌, ℕ, ◌+◌, ◌-◌, ◌<◌, Bool, true, false, ◌&&◌, List, length, get_or, refl, subst, arith, inl, inr}
-use Rattle.std.proofs.lemmas.Bool.{cases_lt}
+use Rattle.std.proofs.Common.{◌≡◌, ℕ, ◌+◌, ◌-◌, ◌<◌, List, length, get_or, subst, arith, inl, inr}
+use Rattle.std.proofs.lemmas.Bool.{cases_lt, and_parts}
 use Rattle.std.proofs.lemmas.Str.{IsUtf8-from_ascii}
 use Rattle.std.proofs.lemmas.Str.Ascii.{IsAscii-from_reads}
 use Rattle.hv_row.proofs.row.is_short_ascii.Goals as goal
-
-both : (a b : Bool) → (a && b) ≡ true → (a ≡ true) × (b ≡ true)
-both true b e = (refl, e)
-both false b e = absurd cc
 
 at_place : (bytes : List ℕ) (p q : ℕ) → p ≡ q → get_or bytes p 0 < 128 → get_or bytes q 0 < 128
 at_place bytes p q e lt = subst (λ (x : ℕ). get_or bytes x 0 < 128) e lt
@@ -15,7 +11,7 @@ pub returns : goal.returns
 returns c = λ yes.
     let bytes = c.args.bytes.now in
     let long = length bytes in
-    let words = both c.is_ascii_word.result c.is_ascii_word-2.result yes in
+    let words = and_parts c.is_ascii_word.result c.is_ascii_word-2.result yes in
     record {
       short = omega arith;
       utf8 = IsUtf8-from_ascii bytes (IsAscii-from_reads bytes long (omega arith) (λ k lt. elim (cases_lt k 8) [
