@@ -1,5 +1,5 @@
 // Columns and schemas.
-ghost use Rattle.std.specs.Prelude.{◌≡◌, ◌↔◌, IfOk, IsTrue};
+ghost use Rattle.std.specs.Prelude.{◌≡◌, ◌↔◌, false, IfOk, IfSome, IsSome, IsTrue};
 ghost use Rattle.hv_row.specs.Schema.{has_column, first_repeated, IsSchema};
 
 use crate::{Bytes, ColType, Copied, Listed};
@@ -16,6 +16,20 @@ pub struct Column {
     pub kind: ColType,
     pub index: bool,
     pub range: bool,
+}
+
+impl Column {
+    /// A column of that name and type that has no index and keeps no ranges.
+    pub fn plain(alloc: Global, name: &[u8], kind: ColType) -> Result<Column, AllocError>
+        ensures { IfOk result (λ column. column ≡ record { name = name.now; kind = kind; index = false; range = false }) }
+    {
+        Ok(Column {
+            name: Bytes::from_slice(alloc, name)?,
+            kind,
+            index: false,
+            range: false,
+        })
+    }
 }
 
 impl Copied for Column {
@@ -58,6 +72,17 @@ impl Schema {
         ensures { result ≡ columns }
     {
         Schema { columns }
+    }
+
+    /// The schema of these columns; `None` where they are not those of a table, as `is_schema` tests.
+    pub fn checked(columns: Columns) -> Option<Schema>
+        ensures same { IfSome result (λ schema. schema ≡ columns) }
+        ensures some { IsSome result ↔ IsSchema columns }
+    {
+        if !is_schema(columns.as_slice()) {
+            return None;
+        }
+        Some(Schema { columns })
     }
 
     pub fn columns(&self) -> &[Column]
