@@ -18,7 +18,7 @@ pub used_more : (entries : List (List ℕ)) (entry : List ℕ) → used_by (entr
 used_more entries entry = omega (arith, length_more entries entry, ap length (concat_more entries entry), length-append (concat entries) entry)
 
 -- so many zeros
-abbrev zeros : ℕ → List ℕ
+abbrev pub zeros : ℕ → List ℕ
 zeros count = replicate count 0
 
 zeros_three : (whole first second third : ℕ) → whole ≡ first + (second + third) → zeros whole ≡ zeros first ++ (zeros second ++ zeros third)
@@ -64,7 +64,7 @@ abbrev six_puts : ℕ → ℕ → ℕ → ℕ → ℕ → ℕ → List ℕ → L
 six_puts at to k₁ k₂ k₃ k₄ page moved higher offset entry counted after = put_mid 6 2 (put_mid 4 2 (put_mid to k₄ (put_mid at k₃ (put_mid 16 k₂ (put_mid at k₁ page moved) higher) offset) entry) counted) after
 
 -- parts that are equal, one by one
-pub page_by_same : (kind number c d u v : ℕ) (p q b a f g : List ℕ) → c ≡ d → u ≡ v → p ≡ q → b ≡ a → f ≡ g → page_by kind number c u p b f ≡ page_by kind number d v q a g
+page_by_same : (kind number c d u v : ℕ) (p q b a f g : List ℕ) → c ≡ d → u ≡ v → p ≡ q → b ≡ a → f ≡ g → page_by kind number c u p b f ≡ page_by kind number d v q a g
 page_by_same kind number c d u v p q b a f g e₁ e₂ e₃ e₄ e₅ = cc
 
 -- the offsets and the entries with the new one behind them
@@ -72,6 +72,27 @@ pub page_by_grouped : (kind number c u : ℕ) (p q b a f counter final : List �
     (79 ∷ 68 ∷ kind ∷ written_version ∷ []) ++ (counter ++ (final ++ ((to_be_bytes w32 number ++ 0 ∷ 0 ∷ 0 ∷ 0 ∷ []) ++ (p ++ (q ++ (b ++ (a ++ f)))))))
     ≡ page_by kind number c u (p ++ q) (b ++ a) f
 page_by_grouped kind number c u p q b a f counter final counter-is final-is = rw (counter-is, final-is) (simp append_assoc)
+
+-- with the offsets raised and one behind them, and an entry behind the others, these are the parts of the page of one entry more
+pub page_more : (kind number : ℕ) (entries : List (List ℕ)) (entry offset copy : List ℕ) (to count : ℕ) →
+    offset ≡ to_be_bytes w16 to → copy ≡ entry → length entries ≡ count → used_by entries + 2 ≡ to →
+    page_by kind number (count + 1) (to + length entry) (offsets (entries_from (length entries) + 2) entries ++ offset) (concat entries ++ copy) (zeros (4096 - (used_by entries + 2 + length entry)))
+    ≡ page_of kind written_version number (entries ++ entry ∷ [])
+page_more kind number entries entry offset copy to count offset-is copy-is counted to-is =
+    let after = entries ++ entry ∷ [] in
+    let from : entries_from (length entries) + 2 ≡ entries_from (length after) = omega (arith, length_more entries entry) in
+    let next : entries_from (length entries) + 2 + length (concat entries) ≡ to = omega arith in
+    let higher = offsets (entries_from (length entries) + 2) entries in
+    let offsets-are : higher ++ offset ≡ offsets (entries_from (length after)) after =
+    ap (λ (some : List ℕ). higher ++ some) offset-is
+    ∙ ap (λ (place : ℕ). higher ++ to_be_bytes w16 place) (sym next)
+    ∙ sym (offsets_more (entries_from (length entries) + 2) entries entry)
+    ∙ ap (λ (place : ℕ). offsets place after) from in
+    let ended : to + length entry ≡ used_by after = omega (arith, used_more entries entry) in
+    let unused : 4096 - (used_by entries + 2 + length entry) ≡ 4096 - used_by after = omega (arith, used_more entries entry) in
+    page_by_same kind number (count + 1) (length after) (to + length entry) (used_by after) (higher ++ offset) (offsets (entries_from (length after)) after) (concat entries ++ copy) (concat after) (zeros (4096 - (used_by entries + 2 + length entry))) (zeros (4096 - used_by after))
+    (omega (arith, length_more entries entry)) ended offsets-are (ap (λ (some : List ℕ). concat entries ++ some) copy-is ∙ sym (concat_more entries entry)) (ap zeros unused)
+    ∙ sym (page_parts kind number after)
 
 -- with the entries moved, the offsets raised, and the rest written, a page is the one with an entry more
 pub pushed :
@@ -94,17 +115,6 @@ pushed kind number entries page entry moved higher offset copy counter final at 
     let writes = six_writes (79 ∷ 68 ∷ kind ∷ written_version ∷ []) (to_be_bytes w16 (length entries)) (to_be_bytes w16 (used_by entries)) tail places (concat entries) (zeros 2) under free pair higher offset copy counter final at to k₁ k₂ k₃ k₄
     refl refl refl refl (ap length counter-is) (ap length offset-is) (omega (arith, length-take-le 2 moved (omega (arith, moved-len)))) size'
     (omega (arith, size)) (omega (arith, size)) (omega (arith, size)) (omega (arith, size)) e₃ (length-replicate (length entry) 0 ∙ e₄) in
-    let after = entries ++ entry ∷ [] in
-    let from : entries_from (length entries) + 2 ≡ entries_from (length after) = omega (arith, length_more entries entry) in
-    let next : entries_from (length entries) + 2 + length (concat entries) ≡ to = omega arith in
-    let offsets-are : higher ++ offset ≡ offsets (entries_from (length after)) after =
-    ap (λ (some : List ℕ). higher ++ some) offset-is
-    ∙ ap (λ (some : List ℕ). some ++ to_be_bytes w16 to) higher-is
-    ∙ ap (λ (place : ℕ). offsets (entries_from (length entries) + 2) entries ++ to_be_bytes w16 place) (sym next)
-    ∙ sym (offsets_more (entries_from (length entries) + 2) entries entry)
-    ∙ ap (λ (place : ℕ). offsets place after) from in
-    let ended : to + length entry ≡ used_by after = omega (arith, used_more entries entry) in
-    let unused : 4096 - (used_by entries + 2 + length entry) ≡ 4096 - used_by after = omega (arith, used_more entries entry) in
     record {
       fit = omega (arith, used_more entries entry);
       whole =
@@ -112,9 +122,8 @@ pushed kind number entries page entry moved higher offset copy counter final at 
           ∙ ap (λ (bytes : List ℕ). six_puts at to k₁ k₂ k₃ k₄ (page_by kind number (length entries) (used_by entries) places (concat entries) (zeros 2 ++ (under ++ free))) bytes higher offset copy counter final) both
           ∙ writes
           ∙ page_by_grouped kind number (count + 1) (to + length entry) higher offset (concat entries) copy free counter final counter-is final-is
-          ∙ page_by_same kind number (count + 1) (length after) (to + length entry) (used_by after) (higher ++ offset) (offsets (entries_from (length after)) after) (concat entries ++ copy) (concat after) free (zeros (4096 - used_by after))
-          (omega (arith, length_more entries entry)) ended offsets-are (ap (λ (some : List ℕ). concat entries ++ some) copy-is ∙ sym (concat_more entries entry)) (ap zeros unused)
-          ∙ sym (page_parts kind number after);
+          ∙ ap (λ (some : List ℕ). page_by kind number (count + 1) (to + length entry) (some ++ offset) (concat entries ++ copy) free) higher-is
+          ∙ page_more kind number entries entry offset copy to count offset-is copy-is counted (omega arith);
     }
 
 -- the entries and the two zeros behind them

@@ -12,6 +12,25 @@ put_at front part back new at size p q = rw (take_at front (part ++ back) at p, 
 pub put_from : (whole front part back new : List ℕ) (at size : ℕ) → whole ≡ front ++ (part ++ back) → length front ≡ at → length part ≡ size → put_mid at size whole new ≡ front ++ (new ++ back)
 put_from whole front part back new at size is p q = ap (λ (bytes : List ℕ). put_mid at size bytes new) is ∙ put_at front part back new at size p q
 
+-- the last four writes of a push, on a page in parts whose entries and offsets have moved: one offset more, the entry, the count and the first place behind
+pub four_writes :
+    (page start count used tail higher gap entries under free offset entry counted after : List ℕ) (at to k₃ k₄ : ℕ) →
+    page ≡ start ++ (count ++ (used ++ (tail ++ (higher ++ (gap ++ (entries ++ (under ++ free))))))) →
+    length start ≡ 4 → length count ≡ 2 → length used ≡ 2 → length tail ≡ 8 → length counted ≡ 2 → length offset ≡ 2 → length gap ≡ 2 →
+    16 + length higher ≡ at → at + (2 + length entries) ≡ to → 2 ≡ k₃ → length under ≡ k₄ →
+    put_mid 6 2 (put_mid 4 2 (put_mid to k₄ (put_mid at k₃ page offset) entry) counted) after
+    ≡ start ++ (counted ++ (after ++ (tail ++ (higher ++ (offset ++ (entries ++ (entry ++ free)))))))
+four_writes page start count used tail higher gap entries under free offset entry counted after at to k₃ k₄ is l₁ l₂ l₃ l₄ l₅ l₆ l₇ at-is to-is e₃ e₄ =
+    let w₁ = put_from page (start ++ count ++ used ++ tail ++ higher) gap (entries ++ under ++ free) offset at k₃
+    (is ∙ simp append_assoc) (simp length-append (omega arith)) (omega arith) in
+    let w₂ = put_from _ (start ++ count ++ used ++ tail ++ higher ++ offset ++ entries) under free entry to k₄
+    (w₁ ∙ simp append_assoc) (simp length-append (omega arith)) e₄ in
+    let w₃ = put_from _ start count (used ++ tail ++ higher ++ offset ++ entries ++ entry ++ free) counted 4 2
+    (w₂ ∙ simp append_assoc) l₁ l₂ in
+    let w₄ = put_from _ (start ++ counted) used (tail ++ higher ++ offset ++ entries ++ entry ++ free) after 6 2
+    (w₃ ∙ simp append_assoc) (simp length-append (omega arith)) l₃ in
+    w₄ ∙ simp append_assoc
+
 -- the six writes of a push, on a page in parts: the entries move over two zeros, the offsets are raised, and then one offset more, the entry, the count and the first place behind are written
 pub six_writes :
     (start count used tail places entries zeros under free pair higher offset entry counted after : List ℕ) (at to k₁ k₂ k₃ k₄ : ℕ) →
@@ -26,15 +45,8 @@ six_writes start count used tail places entries zeros under free pair higher off
     (simp append_assoc) (simp length-append (omega arith)) (simp length-append (omega arith)) in
     let w₂ = put_from _ (start ++ count ++ used ++ tail) places (pair ++ entries ++ under ++ free) higher 16 k₂
     (w₁ ∙ simp append_assoc) (simp length-append (omega arith)) e₂ in
-    let w₃ = put_from _ (start ++ count ++ used ++ tail ++ higher) pair (entries ++ under ++ free) offset at k₃
-    (w₂ ∙ simp append_assoc) (simp length-append (omega arith)) (omega arith) in
-    let w₄ = put_from _ (start ++ count ++ used ++ tail ++ higher ++ offset ++ entries) under free entry to k₄
-    (w₃ ∙ simp append_assoc) (simp length-append (omega arith)) e₄ in
-    let w₅ = put_from _ start count (used ++ tail ++ higher ++ offset ++ entries ++ entry ++ free) counted 4 2
-    (w₄ ∙ simp append_assoc) l₁ l₂ in
-    let w₆ = put_from _ (start ++ counted) used (tail ++ higher ++ offset ++ entries ++ entry ++ free) after 6 2
-    (w₅ ∙ simp append_assoc) (simp length-append (omega arith)) l₃ in
-    w₆ ∙ simp append_assoc
+    four_writes _ start count used tail higher pair entries under free offset entry counted after at to k₃ k₄
+    (w₂ ∙ simp append_assoc) l₁ l₂ l₃ l₄ l₅ l₆ l₇ (omega arith) to-is e₃ e₄
 
 -- what stands below a part that was written
 pub below_put : (page new : List ℕ) (at size k : ℕ) → 16 + k ≡ at → at ≤ length page → take k (drop 16 (put_mid at size page new)) ≡ take k (drop 16 page)

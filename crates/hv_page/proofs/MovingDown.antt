@@ -6,9 +6,9 @@ use Rattle.std.proofs.lemmas.List.{take_at, length-append, length-drop, drop-tak
 use borrow.Rule.Slice.PartMut.{put_mid}
 use Rattle.hv_page.specs.Layout.{offsets, used_by, entries_from, written_version, IsBegun}
 use Rattle.hv_page.specs.Fault.{short_at}
-use Rattle.hv_page.proofs.MakingWrites.{put_from}
-use Rattle.hv_page.proofs.MakingOffsets.{concat_more, length-offsets, offsets_more}
-use Rattle.hv_page.proofs.Making.{page_by, page_parts, page_by_same, page_by_grouped, length_more, used_more}
+use Rattle.hv_page.proofs.MakingWrites.{put_from, four_writes}
+use Rattle.hv_page.proofs.MakingOffsets.{length-offsets}
+use Rattle.hv_page.proofs.Making.{page_by, page_parts, page_by_grouped, page_more, used_more, zeros}
 
 -- what is read behind two bytes
 pub down_4 : (window : List ℕ) → short_at window 6 ≡ short_at (drop 2 window) 4
@@ -50,18 +50,8 @@ five_writes :
 five_writes start count used tail places entries under free higher gap offset entry counted after at to k₂ k₃ k₄ l₁ l₂ l₃ l₄ l₅ l₆ l₇ at-is to-is e₂ e₃ e₄ =
     let w₂ = put_from (start ++ (count ++ (used ++ (tail ++ (places ++ (entries ++ (under ++ free))))))) (start ++ count ++ used ++ tail) places (entries ++ under ++ free) (higher ++ gap) 16 k₂
     (simp append_assoc) (simp length-append (omega arith)) e₂ in
-    let w₃ = put_from _ (start ++ count ++ used ++ tail ++ higher) gap (entries ++ under ++ free) offset at k₃
-    (w₂ ∙ simp append_assoc) (simp length-append (omega arith)) (omega arith) in
-    let w₄ = put_from _ (start ++ count ++ used ++ tail ++ higher ++ offset ++ entries) under free entry to k₄
-    (w₃ ∙ simp append_assoc) (simp length-append (omega arith)) e₄ in
-    let w₅ = put_from _ start count (used ++ tail ++ higher ++ offset ++ entries ++ entry ++ free) counted 4 2
-    (w₄ ∙ simp append_assoc) l₁ l₂ in
-    let w₆ = put_from _ (start ++ counted) used (tail ++ higher ++ offset ++ entries ++ entry ++ free) after 6 2
-    (w₅ ∙ simp append_assoc) (simp length-append (omega arith)) l₃ in
-    w₆ ∙ simp append_assoc
-
-abbrev zeros : ℕ → List ℕ
-zeros count = replicate count 0
+    four_writes _ start count used tail higher gap entries under free offset entry counted after at to k₃ k₄
+    (w₂ ∙ simp append_assoc) l₁ l₂ l₃ l₄ l₅ l₆ l₇ at-is to-is e₃ e₄
 
 abbrev five_puts : ℕ → ℕ → ℕ → ℕ → ℕ → List ℕ → List ℕ → List ℕ → List ℕ → List ℕ → List ℕ → List ℕ
 five_puts at to k₂ k₃ k₄ moved lowered offset entry counted after = put_mid 6 2 (put_mid 4 2 (put_mid to k₄ (put_mid at k₃ (put_mid 16 k₂ moved lowered) offset) entry) counted) after
@@ -102,16 +92,6 @@ pushed_down kind number entries window entry moved lowered offset copy counter f
     let writes = five_writes (79 ∷ 68 ∷ kind ∷ written_version ∷ []) (to_be_bytes w16 (length entries)) (to_be_bytes w16 (used_by entries)) tail ((0 ∷ 0 ∷ []) ++ places) (concat entries) under (free ++ zeros 2) higher gap offset copy counter final at to k₂ k₃ k₄
     refl refl refl refl (ap length counter-is) (ap length offset-is) (omega (arith, length-drop (2 * length entries) lowered, lowered-len))
     (omega (arith, size')) (omega (arith, size')) (omega (arith, size)) e₃ (length-replicate {A = ℕ} (length entry) 0 ∙ e₄) in
-    let after = entries ++ entry ∷ [] in
-    let from : entries_from (length entries) + 2 ≡ entries_from (length after) = omega (arith, length_more entries entry) in
-    let next : entries_from (length entries) + 2 + length (concat entries) ≡ to = omega arith in
-    let offsets-are : higher ++ offset ≡ offsets (entries_from (length after)) after =
-    ap (λ (some : List ℕ). higher ++ some) offset-is
-    ∙ ap (λ (place : ℕ). offsets (entries_from (length entries) + 2) entries ++ to_be_bytes w16 place) (sym next)
-    ∙ sym (offsets_more (entries_from (length entries) + 2) entries entry)
-    ∙ ap (λ (place : ℕ). offsets place after) from in
-    let ended : to + length entry ≡ used_by after = omega (arith, used_more entries entry) in
-    let unused : 4096 - (used_by entries + 2 + length entry) ≡ 4096 - used_by after = omega (arith, used_more entries entry) in
     record {
       fit = omega (arith, used_more entries entry);
       whole =
@@ -121,7 +101,5 @@ pushed_down kind number entries window entry moved lowered offset copy counter f
           ∙ page_by_grouped kind number (count + 1) (to + length entry) higher offset (concat entries) copy (free ++ zeros 2) counter final counter-is final-is)
           ∙ page_and_two kind number (count + 1) (to + length entry) (higher ++ offset) (concat entries ++ copy) free
           (omega (arith, length-append higher offset, size', ap length offset-is, length-append (concat entries) copy, ap length copy-is, length-replicate {A = ℕ} (4096 - (used_by entries + 2 + length entry)) 0))
-          ∙ page_by_same kind number (count + 1) (length after) (to + length entry) (used_by after) (higher ++ offset) (offsets (entries_from (length after)) after) (concat entries ++ copy) (concat after) free (zeros (4096 - used_by after))
-          (omega (arith, length_more entries entry)) ended offsets-are (ap (λ (some : List ℕ). concat entries ++ some) copy-is ∙ sym (concat_more entries entry)) (ap zeros unused)
-          ∙ sym (page_parts kind number after);
+          ∙ page_more kind number entries entry offset copy to count offset-is copy-is counted (omega arith);
     }
