@@ -3,11 +3,12 @@ use Rattle.std.proofs.Common.{◌≡◌, ℕ, ◌+◌, ◌*◌, ◌<◌, ◌≤�
 use Rattle.std.specs.Int.{w16, to_be_bytes}
 use Rattle.std.specs.List.{concat}
 use Rattle.std.proofs.lemmas.List.{take_at, drop_at, length-append, length-take-le, take_more, drop_more, take_all, take-append-drop}
+use Rattle.std.proofs.lemmas.List.Folds.{concat-append}
 use Rattle.std.proofs.lemmas.Nat.{from_be_bytes-to_be_bytes_2}
 use borrow.Rule.Slice.PartMut.{put_mid}
 use Rattle.hv_page.specs.Layout.{offsets}
 use Rattle.hv_page.specs.Fault.{short_at}
-use Rattle.hv_page.proofs.MakingOffsets.{concat_more, concat_append, length-offsets, offsets_more, next_offset}
+use Rattle.hv_page.proofs.MakingOffsets.{concat_more, length-offsets, offsets_more, next_offset}
 use Rattle.hv_page.proofs.MakingWrites.{put_from}
 
 -- so many offsets are raised and moved, and 2 bytes of no use stand before the others
@@ -54,7 +55,7 @@ done_long slots from entries le = length-offsets (from + 2) (take slots entries)
 pub next_small : (slots from : ℕ) (entries : List (List ℕ)) → next_offset slots from entries ≤ from + length (concat entries)
 next_small slots from entries =
     let split : length (concat entries) ≡ length (concat (take slots entries)) + length (concat (drop slots entries)) =
-    ap (λ (some : List (List ℕ)). length (concat some)) (sym (take-append-drop slots entries)) ∙ ap length (concat_append (take slots entries) (drop slots entries)) ∙ length-append (concat (take slots entries)) (concat (drop slots entries)) in
+    ap (λ (some : List (List ℕ)). length (concat some)) (sym (take-append-drop slots entries)) ∙ ap length (concat-append (take slots entries) (drop slots entries)) ∙ length-append (concat (take slots entries)) (concat (drop slots entries)) in
     omega (arith, split)
 
 -- the number that is read

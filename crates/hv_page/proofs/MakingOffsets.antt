@@ -3,6 +3,7 @@ use Rattle.std.proofs.Common.{◌≡◌, ℕ, ◌+◌, ◌*◌, ◌<◌, ◌≤�
 use Rattle.std.specs.Int.{w16, to_be_bytes}
 use Rattle.std.specs.List.{concat}
 use Rattle.std.proofs.lemmas.List.{drop_at, length-append, length-take-le, take_more, drop_more, take_all, drop_all, take-append-drop}
+use Rattle.std.proofs.lemmas.List.Folds.{concat-append}
 use Rattle.std.proofs.lemmas.Nat.{from_be_bytes-to_be_bytes_2}
 use borrow.Rule.Slice.PartMut.{put_mid}
 use Rattle.hv_page.specs.Layout.{offsets}
@@ -10,12 +11,8 @@ use Rattle.hv_page.specs.Fault.{short_at}
 use Rattle.hv_page.proofs.MakingWrites.{put_from}
 
 -- entries joined end to end, and one more
-pub concat_append : (entries others : List (List ℕ)) → concat (entries ++ others) ≡ concat entries ++ concat others
-concat_append [] others = refl
-concat_append (first ∷ entries) others = ap (λ (rest : List ℕ). first ++ rest) (concat_append entries others) ∙ sym (append_assoc first (concat entries) (concat others))
-
 pub concat_more : (entries : List (List ℕ)) (entry : List ℕ) → concat (entries ++ entry ∷ []) ≡ concat entries ++ entry
-concat_more entries entry = concat_append entries (entry ∷ []) ∙ ap (λ (last : List ℕ). concat entries ++ last) (append-nil entry)
+concat_more entries entry = concat-append entries (entry ∷ []) ∙ ap (λ (last : List ℕ). concat entries ++ last) (append-nil entry)
 
 -- 2 bytes each
 pub length-offsets : (from : ℕ) (entries : List (List ℕ)) → length (offsets from entries) ≡ 2 * length entries
@@ -68,7 +65,7 @@ next_of slots from entries lt =
     let later : (from + length (concat done)) + length entry ≡ from + length (concat (take (slots + 1) entries)) = omega (arith, longer) in
     let higher : (from + 2) + length (concat done) ≡ from + length (concat done) + 2 = omega arith in
     let split : length (concat entries) ≡ length (concat done) + length (concat (drop slots entries)) =
-    ap (λ (some : List (List ℕ)). length (concat some)) (sym (take-append-drop slots entries)) ∙ ap length (concat_append done (drop slots entries)) ∙ length-append (concat done) (concat (drop slots entries)) in
+    ap (λ (some : List (List ℕ)). length (concat some)) (sym (take-append-drop slots entries)) ∙ ap length (concat-append done (drop slots entries)) ∙ length-append (concat done) (concat (drop slots entries)) in
     record {
       here =
           ap (λ (rest : List (List ℕ)). offsets (from + 2) done ++ offsets (from + length (concat done)) rest) (drop_more entries slots [] lt)

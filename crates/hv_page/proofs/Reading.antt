@@ -8,15 +8,11 @@ use Rattle.std.proofs.lemmas.List.{take_at, take_all, drop_at, drop-drop, length
 use Rattle.std.proofs.lemmas.Nat.{from_be_bytes-to_be_bytes_2, from_be_bytes-to_be_bytes_4}
 use Rattle.hv_page.specs.Layout.{entries_from, used_by, offsets, header, page_of, Fit}
 use Rattle.hv_page.specs.Fault.{count_of, used_of, entry_from, entry_to, entry_at, entries_left, entries_of}
+use Rattle.hv_page.proofs.MakingOffsets.{length-offsets}
 
 -- the place of an entry in a page of these entries; that of the last one's end at the number of all
 abbrev pub place : List (List ℕ) → ℕ → ℕ
 place entries slot = entries_from (length entries) + length (concat (take slot entries))
-
-pub offsets_length : (from : ℕ) (entries : List (List ℕ)) → length (offsets from entries) ≡ 2 * length entries
-unfolding offsets
-offsets_length from [] = refl
-offsets_length from (entry ∷ entries) = omega (arith, offsets_length (from + length entry) entries)
 
 -- the offset of an entry
 offset_at : (slot from : ℕ) (entries : List (List ℕ)) (rest : List ℕ) → slot < length entries → take 2 (drop (2 * slot) (offsets from entries ++ rest)) ≡ to_be_bytes w16 (from + length (concat (take slot entries)))
@@ -53,7 +49,7 @@ pub page_length : (kind version number : ℕ) (entries : List (List ℕ)) → Fi
 page_length kind version number entries fit =
     let o = offsets (entries_from (length entries)) entries in
     let z = replicate {A = ℕ} (4096 - used_by entries) 0 in
-    omega (arith, length-append (header kind version number entries ++ o ++ concat entries) z, length-append (header kind version number entries ++ o) (concat entries), length-append (header kind version number entries) o, offsets_length (entries_from (length entries)) entries, length-replicate {A = ℕ} (4096 - used_by entries) 0)
+    omega (arith, length-append (header kind version number entries ++ o ++ concat entries) z, length-append (header kind version number entries ++ o) (concat entries), length-append (header kind version number entries) o, length-offsets (entries_from (length entries)) entries, length-replicate {A = ℕ} (4096 - used_by entries) 0)
 
 pub made_count : (kind version number : ℕ) (entries : List (List ℕ)) → Fit entries → count_of (page_of kind version number entries) ≡ length entries
 made_count kind version number entries fit = from_be_bytes-to_be_bytes_2 (length entries) (omega arith)
@@ -112,7 +108,7 @@ made_entry kind version number entries slot fit lt =
     ∙ ap (drop (length (concat (take slot entries)))) (
     sym (drop-drop (2 * length entries) 16 page)
     ∙ ap (λ (p : List ℕ). drop (2 * length entries) (drop 16 p)) (page_behind kind version number entries)
-    ∙ drop_at o rest (2 * length entries) (offsets_length (entries_from (length entries)) entries)) in
+    ∙ drop_at o rest (2 * length entries) (length-offsets (entries_from (length entries)) entries)) in
     rw (from, to, long, over) (bytes_at slot entries (replicate (4096 - used_by entries) 0) lt)
 
 -- the zeros behind the entries
@@ -120,7 +116,7 @@ pub made_zeros : (kind version number : ℕ) (entries : List (List ℕ)) → Fit
 made_zeros kind version number entries fit =
     let o = offsets (entries_from (length entries)) entries in
     drop_at (header kind version number entries ++ o ++ concat entries) (replicate (4096 - used_by entries) 0) (used_by entries)
-    (omega (arith, length-append (header kind version number entries ++ o) (concat entries), length-append (header kind version number entries) o, offsets_length (entries_from (length entries)) entries))
+    (omega (arith, length-append (header kind version number entries ++ o) (concat entries), length-append (header kind version number entries) o, length-offsets (entries_from (length entries)) entries))
 
 -- entries from a slot on are read one by one
 pub entries_left_length : (page : List ℕ) (slot left : ℕ) → length (entries_left page slot left) ≡ left

@@ -1,9 +1,10 @@
 -- Entries that are rows: a row has a byte at least, a fault stands in its row or at its end, and a heap page is made of rows exactly where it has no fault.
-use Rattle.std.proofs.Common.{◌≡◌, ℕ, zero, suc, ◌+◌, ◌-◌, ◌^◌, ◌<◌, ◌≤◌, Bool, true, false, ltb, cond, List, [], ◌∷◌, length, get_or, take, drop, Option, Some, None, Result, Ok, Err, refl, sym, ap, ◌∙◌, arith, length-drop}
+use Rattle.std.proofs.Common.{◌≡◌, ℕ, zero, suc, ◌+◌, ◌-◌, ◌^◌, ◌<◌, ◌≤◌, ltb, cond, List, [], ◌∷◌, length, get_or, take, drop, Option, Some, None, Result, Ok, Err, refl, sym, ap, ◌∙◌, arith, length-drop}
 use Rattle.std.specs.Prelude.{nat_le, IfOk, IfErr, MatchResult}
 use Rattle.std.specs.List.{AllByRecursion}
 use Rattle.std.specs.Str.{is_utf8}
 use Rattle.std.proofs.lemmas.Bool.{le-leb, leb-true, ltb-false}
+use Rattle.std.proofs.lemmas.Option.{same_Some, cond_some}
 use Rattle.hv_row.specs.declared.value.Value.{Value}
 use Rattle.hv_row.specs.declared.value.Value.TheVariants.{Int, Text}
 use Rattle.hv_row.specs.declared.value.ColType.{ColType}
@@ -11,47 +12,35 @@ use Rattle.hv_row.specs.declared.value.ColType.TheVariants as kind
 use Rattle.hv_row.specs.declared.schema.Column.{Column}
 use Rattle.hv_row.specs.Row.{RowFits, row_bytes}
 use Rattle.hv_row.specs.Spelling.{IsSpelling, value_length, behind, fault_from, row_fault}
-use Rattle.hv_row.proofs.Reading.{IsBytes, IsBytes-drop, spelling_faultless, row_found}
+use Rattle.hv_row.proofs.Reading.{IsBytes, IsBytes-drop, IsBytes-take, guarded, spelling_faultless, row_found}
 use Rattle.hv_page.specs.declared.layout.Form.{Form}
 use Rattle.hv_page.specs.Heap.{heap_kind, IsHeapEntry, IsHeapPage}
 use Rattle.hv_page.specs.Fault.{unless, count_of, entry_from, entry_to, entry_at, heap_entry_fault, heap_fault, entries_left, entries_of, Tells}
 use Rattle.hv_page.proofs.Points.{orelse_parts, orelse_next, unless_holds, unless_none}
 use Rattle.hv_page.proofs.Reading.{made_entries}
 use Rattle.hv_page.proofs.Faultless.{made_faultless}
-use Rattle.hv_page.proofs.Whole.{IsBytes-take, made}
+use Rattle.hv_page.proofs.Whole.{made}
 
 -- ---- where a fault stands
-
-same_some : (m n : ℕ) → Some m ≡ Some n → m ≡ n
-same_some m n e = cc
-
--- what a test of two outcomes gives, where the first is none
-second : (b : Bool) (o : Option ℕ) (n : ℕ) → cond b None o ≡ Some n → (b ≡ false) × (o ≡ Some n)
-second true o n e = absurd cc
-second false o n e = (refl, e)
-
-first : (b : Bool) (o : Option ℕ) (n : ℕ) → cond b o None ≡ Some n → o ≡ Some n
-first true o n e = e
-first false o n e = absurd cc
 
 value_within : (k : ColType) (bytes : List ℕ) (n : ℕ) → value_length k bytes ≡ Some n → n ≤ length bytes
 unfolding value_length
 value_within kind.Int bytes n e =
-    let long = second (ltb (length bytes) 8) (Some 8) n e in
-    omega (arith, ltb-false (length bytes) 8 long.0, same_some 8 n long.1)
+    let long = guarded (ltb (length bytes) 8) (Some 8) n e in
+    omega (arith, ltb-false (length bytes) 8 long.0, same_Some 8 n long.1)
 value_within kind.Text [] n e = absurd cc
 value_within kind.Text (m ∷ rest) n e =
-    let long = second (ltb (length rest) m) (cond (is_utf8 (take m rest)) (Some (suc m)) None) n e in
-    omega (arith, ltb-false (length rest) m long.0, same_some (suc m) n (first (is_utf8 (take m rest)) (Some (suc m)) n long.1))
+    let long = guarded (ltb (length rest) m) (cond (is_utf8 (take m rest)) (Some (suc m)) None) n e in
+    omega (arith, ltb-false (length rest) m long.0, (cond_some (is_utf8 (take m rest)) (suc m) n long.1).1)
 
 behind_within : (at : ℕ) (o : Option ℕ) (next : ℕ → Option ℕ) (byte long : ℕ) → behind at o next ≡ Some byte → at ≤ long → ((n : ℕ) → o ≡ Some n → next n ≡ Some byte → byte ≤ long) → byte ≤ long
-behind_within at None next byte long e le then = omega (arith, same_some at byte e)
+behind_within at None next byte long e le then = omega (arith, same_Some at byte e)
 behind_within at (Some n) next byte long e le then = then n refl e
 
 pub fault_within : (at : ℕ) (cs : List Column) (bytes : List ℕ) (byte : ℕ) → fault_from at cs bytes ≡ Some byte → byte ≤ at + length bytes
 unfolding fault_from
 fault_within at [] [] byte e = absurd cc
-fault_within at [] (_ ∷ rest) byte e = omega (arith, same_some at byte e)
+fault_within at [] (_ ∷ rest) byte e = omega (arith, same_Some at byte e)
 fault_within at (c ∷ cs) bytes byte e =
     behind_within at (value_length c.kind bytes) (λ n. fault_from (at + n) cs (drop n bytes)) byte (at + length bytes) e (omega arith)
     (λ n taken later. omega (arith, value_within c.kind bytes n taken, fault_within (at + n) cs (drop n bytes) byte later, length-drop n bytes))

@@ -3,24 +3,17 @@ use Rattle.std.proofs.Common.{◌≡◌, ℕ, zero, suc, ◌+◌, ◌-◌, ◌*�
 use Rattle.std.specs.Prelude.{nat_eq, nat_lt, nat_le}
 use Rattle.std.specs.Int.{w16, w32, to_be_bytes, from_be_bytes}
 use Rattle.std.specs.List.{concat, AllByRecursion}
-use Rattle.std.proofs.lemmas.Bool.{cases_eq, cases_lt, cond-true, cond-false, and_parts, eqb-true, ltb-true, leb-true, eq-eqb, ne_eqb}
-use Rattle.std.proofs.lemmas.List.{take-append-drop, drop-drop, get_or-take, get_or_past}
+use Rattle.std.proofs.lemmas.Bool.{cases_eq, cond-true, cond-false, and_parts, eqb-true, ltb-true, leb-true, eq-eqb, ne_eqb}
+use Rattle.std.proofs.lemmas.List.{take-append-drop, drop-drop}
 use Rattle.std.proofs.Math.Seq.{take-add}
 use Rattle.std.proofs.lemmas.Nat.{be_bytes_2, be_bytes_4}
-use Rattle.hv_row.proofs.Reading.{IsBytes, IsBytes-drop}
+use Rattle.hv_row.proofs.Reading.{IsBytes, IsBytes-drop, IsBytes-take}
 use Rattle.hv_page.specs.Layout.{entries_from, used_by, offsets, header, page_of, Fit}
 use Rattle.hv_page.specs.Fault.{◌orelse◌, unless, short_at, count_of, used_of, entry_from, entry_to, entry_at, byte_fault, start_fault, count_fault, used_fault, number_fault, offset_fits, offsets_fault, entries_fault, zeros_fault, page_fault, entries_left, entries_of, IsReadable}
 use Rattle.hv_page.proofs.Points.{orelse_parts, unless_none, offsets_fit, entries_pass, zeros_are}
 use Rattle.hv_page.proofs.Reading.{page_behind, entries_left_length}
 
 -- ---- bytes
-
-pub IsBytes-take : (n : ℕ) (bytes : List ℕ) → IsBytes bytes → IsBytes (take n bytes)
-IsBytes-take n bytes h i =
-    elim (cases_lt i n) [
-      | inl lt ↦ rw (get_or-take n bytes i 0 lt) (h i)
-      | inr le ↦ rw (get_or_past (take n bytes) i 0 (omega (arith, length-take n bytes))) (omega arith)
-    ]
 
 -- the bytes of a number that was read are those that it was read from
 short_spelt : (page : List ℕ) (at : ℕ) → IsBytes page → at + 2 ≤ length page → to_be_bytes w16 (short_at page at) ≡ take 2 (drop at page)

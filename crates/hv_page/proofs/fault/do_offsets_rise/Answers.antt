@@ -1,12 +1,8 @@
-use Rattle.std.proofs.Common.{◌≡◌, Bool, true, false, ◌&&◌, refl, ◌∙◌, arith}
+use Rattle.std.proofs.Common.{◌&&◌, refl, ◌∙◌, arith}
 use Rattle.std.specs.Prelude.{nat_lt}
-use Rattle.std.proofs.lemmas.Bool.{ltb-true}
+use Rattle.std.proofs.lemmas.Bool.{ltb-true, and_parts}
 use Rattle.hv_page.proofs.Points.{IsAt, offset_goes_on, offsets_end}
 use Rattle.hv_page.proofs.fault.do_offsets_rise.Goals as goal
-
-both : (a b : Bool) → (a && b) ≡ true → (a ≡ true) × (b ≡ true)
-both true b e = (refl, e)
-both false b e = absurd cc
 
 pub loop-slot-init : goal.loop-slot-init
 loop-slot-init c = λ _. refl
@@ -16,8 +12,8 @@ loop-slot-preserved c = λ yes.
     let before = c.place_of.result in
     let from = c.place_of-from.result in
     let used = c.args.used in
-    let parts = both c.loop-slot.rise (nat_lt before from && nat_lt from used) yes in
-    let tests = both (nat_lt before from) (nat_lt from used) parts.1 in
+    let parts = and_parts c.loop-slot.rise (nat_lt before from && nat_lt from used) yes in
+    let tests = and_parts (nat_lt before from) (nat_lt from used) parts.1 in
     let at : IsAt c.args.page.now c.loop-slot.slot c.args.count before from used = record {
       above = omega (arith, c.loop-slot.auto.slot);
       below = c.loop-slot-test.true;
