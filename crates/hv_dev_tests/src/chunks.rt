@@ -8,7 +8,7 @@ use crate::reads::read_run;
 use hv_chunk::{BuildFault, Chunk, ChunkBuilder};
 use hv_dev::{CleanDevice, Device, Fail, FailKind, FileDevice, MemDevice, Order, PageSink, Port};
 use hv_page::digest;
-use hv_row::{Bytes, ColType, Column, Columns, Copied, Row, Schema, Value, is_schema, row_fits};
+use hv_row::{Bytes, ColType, Column, Columns, Copied, Row, Schema, Value, row_fits};
 use hv_view::ChunkView;
 use std::alloc::{AllocError, Global};
 use std::process::Abort;
@@ -18,18 +18,9 @@ use std::{fs, test};
 fn schema_of(alloc: Global, kind: ColType, count: u8) -> Result<Schema, test::Fail> {
     let mut columns = Columns::new(alloc);
     for at in 0..count {
-        let name = Bytes::from_slice(alloc, &[at])?;
-        columns.push(Column {
-            name,
-            kind,
-            index: false,
-            range: false,
-        })?;
+        columns.push(Column::plain(alloc, &[at], kind)?)?;
     }
-    if !is_schema(columns.as_slice()) {
-        return Err("no schema".into());
-    }
-    Ok(Schema::new(columns))
+    Ok(Schema::checked(columns).ok_or("no schema")?)
 }
 
 // A builder without a row.

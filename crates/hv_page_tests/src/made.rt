@@ -2,7 +2,7 @@
 ghost use Rattle.std.specs.Prelude.{◌≤◌, ◌<◌, length};
 
 use hv_page::PAGE_BYTES;
-use hv_row::{Bytes, ColType, Column, Columns, Schema, is_schema};
+use hv_row::{ColType, Column, Columns, Schema};
 use std::alloc::Global;
 use std::test::Fail;
 
@@ -13,30 +13,22 @@ pub const ONE_ROW: [u8; 26] = [
 
 const NAMES: &[u8] = b"abcdefgh";
 
-// A column of numbers for an `i`, else one of texts.
-fn column(alloc: Global, name: &[u8], letter: u8) -> Result<Column, Fail> {
-    Ok(Column {
-        name: Bytes::from_slice(alloc, name)?,
-        kind: if letter == b'i' {
-            ColType::Int
-        } else {
-            ColType::Text
-        },
-        index: false,
-        range: false,
-    })
+// Numbers for an `i`, else texts.
+fn kind_of(letter: u8) -> ColType {
+    if letter == b'i' {
+        ColType::Int
+    } else {
+        ColType::Text
+    }
 }
 
 // The schema of as many columns as `kinds` has letters.
 pub fn schema_of(alloc: Global, kinds: &str) -> Result<Schema, Fail> {
     let mut columns = Columns::new(alloc);
     for (letter, name) in kinds.as_bytes().iter().zip(NAMES.chunks(1)) {
-        columns.push(column(alloc, name, *letter)?)?;
+        columns.push(Column::plain(alloc, name, kind_of(*letter))?)?;
     }
-    if !is_schema(columns.as_slice()) {
-        return Err(Fail::from("no schema"));
-    }
-    Ok(Schema::new(columns))
+    Ok(Schema::checked(columns).ok_or("no schema")?)
 }
 
 // These bytes, and behind them as many of 0 as a page has.

@@ -1,5 +1,5 @@
 // Columns, schemas and rows that the tests are about.
-use hv_row::{Bytes, ColType, Column, Columns, Row, Schema, Value, is_schema};
+use hv_row::{Bytes, ColType, Column, Columns, Row, Schema, Value};
 use std::alloc::Global;
 use std::test::Fail;
 
@@ -39,11 +39,7 @@ pub fn columns_of(alloc: Global, kinds: &str) -> Result<Columns, Fail> {
 }
 
 pub fn schema_of(alloc: Global, kinds: &str) -> Result<Schema, Fail> {
-    let columns = columns_of(alloc, kinds)?;
-    if !is_schema(columns.as_slice()) {
-        return Err(Fail::from("no schema"));
-    }
-    Ok(Schema::new(columns))
+    Ok(Schema::checked(columns_of(alloc, kinds)?).ok_or("no schema")?)
 }
 
 // A row of such a schema, with the same number and text throughout.

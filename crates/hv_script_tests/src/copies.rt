@@ -1,6 +1,6 @@
 // Copies of table heads, conditions and queries.
 use hv_model::{BoundQuery, Cmp, ColRef, Cond, Item, Operand, SortKey, TableHead};
-use hv_row::{Bytes, ColType, Column, Columns, Copied, Listed, Schema, Value, is_schema};
+use hv_row::{Bytes, ColType, Column, Columns, Copied, Listed, Schema, Value};
 use sqlite_items::Boxed;
 use std::alloc::{AllocError, Global};
 use std::fmt::Debug;
@@ -15,10 +15,7 @@ fn schema(alloc: Global) -> Result<Schema, Fail> {
         index: true,
         range: false,
     })?;
-    if !is_schema(columns.as_slice()) {
-        return Err(Fail::from("no schema"));
-    }
-    Ok(Schema::new(columns))
+    Ok(Schema::checked(columns).ok_or("no schema")?)
 }
 
 // Whether a copy is shown as what it copies.

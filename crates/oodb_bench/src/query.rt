@@ -2,7 +2,7 @@
 use hv_bind::{bind, places};
 use hv_expr::naive;
 use hv_model::{Ast, BoundQuery, Cell, OutRow, PlainTables, SelectAst, TableHead};
-use hv_row::{Bytes, ColType, Column, Columns, Row, Rows, Schema, Value, is_schema};
+use hv_row::{Bytes, ColType, Column, Columns, Row, Rows, Schema, Value};
 use hv_sql::parse;
 use std::alloc::{AllocError, Global};
 
@@ -108,20 +108,12 @@ fn head(alloc: Global) -> Result<TableHead, AllocError> {
         ("b", ColType::Text),
         ("n", ColType::Int),
     ] {
-        columns.push(Column {
-            name: Bytes::from_slice(alloc, name.as_bytes())?,
-            kind,
-            index: false,
-            range: false,
-        })?;
-    }
-    if !is_schema(columns.as_slice()) {
-        return Err(AllocError);
+        columns.push(Column::plain(alloc, name.as_bytes(), kind)?)?;
     }
     Ok(TableHead {
         number: 0,
         name: Bytes::from_slice(alloc, b"t")?,
-        schema: Schema::new(columns),
+        schema: Schema::checked(columns).ok_or(AllocError)?,
     })
 }
 

@@ -5,7 +5,7 @@ ghost use Rattle.hv_page.specs.Layout.{WasBegun};
 use hv_page::{HEAP_KIND, PAGE_BYTES, begin, digest, parse_heap, push};
 use hv_row::{
     Bytes, ColType, Column, Columns, DecodeFault, Row, Rows, Schema, Value, decode, encode,
-    is_schema, row_fits,
+    row_fits,
 };
 use std::alloc::{AllocError, Global};
 
@@ -54,11 +54,7 @@ pub struct Bench {
 
 impl Bench {
     pub fn new(alloc: Global) -> Result<Bench, AllocError> {
-        let columns = columns(alloc)?;
-        if !is_schema(columns.as_slice()) {
-            return Err(AllocError);
-        }
-        let schema = Schema::new(columns);
+        let schema = Schema::checked(columns(alloc)?).ok_or(AllocError)?;
         let rows = rows(alloc)?;
         let mut entries = Vec::with_capacity(alloc, rows.len())?;
         for row in rows.as_slice() {
@@ -103,12 +99,7 @@ impl Bench {
 fn columns(alloc: Global) -> Result<Columns, AllocError> {
     let mut columns = Columns::with_capacity(alloc, 2)?;
     for (name, kind) in [("a", ColType::Int), ("b", ColType::Text)] {
-        columns.push(Column {
-            name: Bytes::from_slice(alloc, name.as_bytes())?,
-            kind,
-            index: false,
-            range: false,
-        })?;
+        columns.push(Column::plain(alloc, name.as_bytes(), kind)?)?;
     }
     Ok(columns)
 }

@@ -1,6 +1,6 @@
 // Databases of a few rows, written as text.
 use hv_model::{Ast, PlainTables, TableHead};
-use hv_row::{Bytes, ColType, Column, Copied, Listed, Row, Rows, Schema, Value, is_schema};
+use hv_row::{Bytes, ColType, Column, Copied, Listed, Row, Rows, Schema, Value};
 use hv_sql::{SqlFault, parse};
 use std::alloc::{AllocError, Global};
 use std::test::Fail;
@@ -35,14 +35,12 @@ impl Database {
         let Ok(Ast::Create { table, columns }) = parsed(alloc, statement) else {
             return Err(Fail::from("no CREATE TABLE"));
         };
-        if !is_schema(columns.as_slice()) {
-            return Err(Fail::from("columns of no table"));
-        }
+        let schema = Schema::checked(columns).ok_or("columns of no table")?;
         let number = u32::try_from(self.heads.len())?;
         self.heads.push(TableHead {
             number,
             name: table.name,
-            schema: Schema::new(columns),
+            schema,
         })?;
         self.rows.push(Listed::new(alloc))?;
         Ok(())

@@ -6,7 +6,7 @@ use hv_model::{
     Cmp, CondAst, ItemAst, ItemAsts, KeyAst, KeyAsts, KeyBy, OperandAst, PlaceAst, PlaceAsts,
     RefAst, RefAsts, SelectAst, TableHead, Word,
 };
-use hv_row::{Bytes, ColType, Column, Columns, Schema, Value, is_schema};
+use hv_row::{Bytes, ColType, Column, Columns, Schema, Value};
 use sqlite_items::{Boxed, Items};
 use std::alloc::Global;
 use std::test::Fail;
@@ -207,28 +207,17 @@ pub fn select(alloc: Global, line: &str) -> Result<SelectAst, Fail> {
     draft.finish(alloc)
 }
 
-fn column(alloc: Global, name: &str, kind: ColType) -> Result<Column, Fail> {
-    Ok(Column {
-        name: bytes(alloc, name)?,
-        kind,
-        index: false,
-        range: false,
-    })
-}
-
 // Table `u` has the number 5 and the columns `a INT, c TEXT`; any other has the number 3 and `a INT, b TEXT`.
 fn head_of(alloc: Global, table: &Bytes) -> Result<TableHead, Fail> {
     let is_u = table.as_slice() == b"u".as_slice();
     let mut columns = Columns::new(alloc);
-    columns.push(column(alloc, "a", ColType::Int)?)?;
-    columns.push(column(alloc, if is_u { "c" } else { "b" }, ColType::Text)?)?;
-    if !is_schema(columns.as_slice()) {
-        return Err(Fail::from("no schema"));
-    }
+    columns.push(Column::plain(alloc, b"a", ColType::Int)?)?;
+    let second = if is_u { "c" } else { "b" };
+    columns.push(Column::plain(alloc, second.as_bytes(), ColType::Text)?)?;
     Ok(TableHead {
         number: if is_u { 5 } else { 3 },
         name: Bytes::from_slice(alloc, table.as_slice())?,
-        schema: Schema::new(columns),
+        schema: Schema::checked(columns).ok_or("no schema")?,
     })
 }
 
