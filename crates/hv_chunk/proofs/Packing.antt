@@ -1,6 +1,7 @@
 -- Entries determine the pages on which they are packed.
-use Rattle.std.proofs.Common.{◌≡◌, ℕ, ◌≤◌, ◌⊎◌, inl, inr, List, [], ◌∷◌, ◌++◌, length, refl, sym, ap, ◌∙◌, append_assoc, arith, length-append}
+use Rattle.std.proofs.Common.{◌≡◌, ℕ, ◌≤◌, ◌⊎◌, inl, inr, List, [], ◌∷◌, ◌++◌, length, refl, sym, ap, ◌∙◌, arith, length-append}
 use Rattle.std.proofs.lemmas.List.{append-nil}
+use Rattle.std.proofs.lemmas.List.Folds.{concat-append}
 use Rattle.std.specs.List.{flat_map, concat}
 use Rattle.hv_row.specs.declared.value.Value.{Value}
 use Rattle.hv_row.specs.declared.schema.Column.{Column}
@@ -11,14 +12,10 @@ use Rattle.hv_page.specs.Chunk.{DidNotFit, IsPacked, heap_pages_from, AreHeapPag
 abbrev pub flat : List (List (List ℕ)) → List (List ℕ)
 flat parts = flat_map (λ part. part) parts
 
-concat_append : (entries others : List (List ℕ)) → concat (entries ++ others) ≡ concat entries ++ concat others
-concat_append [] others = refl
-concat_append (entry ∷ entries) others = ap (λ (later : List ℕ). entry ++ later) (concat_append entries others) ∙ sym (append_assoc entry (concat entries) (concat others))
-
 -- fewer entries take less of a page
 used_front : (front : List (List ℕ)) (entry : List ℕ) (later : List (List ℕ)) → used_by (front ++ entry ∷ []) ≤ used_by (front ++ entry ∷ later)
 used_front front entry later =
-    omega (arith, length-append front (entry ∷ []), length-append front (entry ∷ later), ap length (concat_append front (entry ∷ [])), ap length (concat_append front (entry ∷ later)), length-append (concat front) (concat (entry ∷ [])), length-append (concat front) (concat (entry ∷ later)), length-append entry [], length-append entry (concat later))
+    omega (arith, length-append front (entry ∷ []), length-append front (entry ∷ later), ap length (concat-append front (entry ∷ [])), ap length (concat-append front (entry ∷ later)), length-append (concat front) (concat (entry ∷ [])), length-append (concat front) (concat (entry ∷ later)), length-append entry [], length-append entry (concat later))
 
 -- where two fronts of one list part: the one is the other and some more
 record Longer (front back other rest : List (List ℕ)) : Type 0 where
