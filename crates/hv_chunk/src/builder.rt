@@ -9,7 +9,7 @@ ghost use Rattle.hv_chunk.specs.Keeping.{IsKept, IsWhole};
 ghost use Rattle.hv_chunk.specs.declared.fault.BuildFault.TheVariants.{Memory, TooLong};
 
 use crate::{BuildFault, Chunk};
-use hv_dev::{PageSink, Past, PutFault};
+use hv_dev::{PageSink, Past, PutFault, as_page};
 use hv_heap::HeapWriter;
 use hv_page::{PAGE_BYTES, digest};
 use hv_row::{Digest, MAX_ROW_BYTES, Row, RowFault, Schema, row_length};
@@ -91,7 +91,7 @@ impl ChunkBuilder {
         if placed.full {
             let page = self.writer.done();
             self.digests.push_reserved(digest(page));
-            self.pages.note(whole(page));
+            self.pages.note(as_page(page));
             return put(port, alloc, page);
         }
         Ok(())
@@ -210,12 +210,4 @@ fn give_up<P: PageSink>(port: &mut P, fault: PutFault) -> BuildFault
         PutFault::Failed => BuildFault::Write,
         PutFault::Memory => BuildFault::Memory,
     }
-}
-
-// A page's bytes as an array, in place.
-fn whole(page: &[u8]) -> &[u8; PAGE_BYTES]
-    requires { length page.now ≡ 4096 }
-    ensures { result.now ≡ page.now }
-{
-    page.as_array().unwrap()
 }

@@ -8,8 +8,8 @@ use Rattle.hv_chunk.proofs.builder.ChunkBuilder.push.Goals as goal
 pub digest-requires : goal.digest-requires
 digest-requires g c = done_length c.args.row c.in-Ok-add.placed c.done-page.result.now c.self.invariant c.in-Ok-add.ensures.placed c.if-placed.true c.done-page.ensures
 
-pub whole-requires : goal.whole-requires
-whole-requires g c = done_length c.args.row c.in-Ok-add.placed c.done-page.result.now c.self.invariant c.in-Ok-add.ensures.placed c.if-placed.true c.done-page.ensures
+pub as_page-requires : goal.as_page-requires
+as_page-requires g c = done_length c.args.row c.in-Ok-add.placed c.done-page.result.now c.self.invariant c.in-Ok-add.ensures.placed c.if-placed.true c.done-page.ensures
 
 pub put-requires-clause-page : goal.put-requires-clause-page
 put-requires-clause-page g c = done_length c.args.row c.in-Ok-add.placed c.done-page.result.now c.self.invariant c.in-Ok-add.ensures.placed c.if-placed.true c.done-page.ensures
@@ -19,7 +19,7 @@ invariant_of-self-then-placed g c =
     let few : c.self.inside.row_count < 1000000 = omega (arith, c.self.invariant.counted, ap (λ (b : Building). length b.rows) c.self.view_is, c.requires.few) in
     let stored : IsStored c.self.inside.schema c.args.row = stored_of _ _ c.self.inside.writer.schema _ c.requires.fits (ap (λ (b : Building). b.schema) c.self.view_is) c.self.invariant.schema_is c.in-Ok-add.ensures.short in
     kept_next _ _ _ _ _ _ _ _ _ _ c.args.row c.in-Ok-add.placed c.done-page.result.now c.self.invariant few stored c.in-Ok-add.ensures.placed c.if-placed.true c.done-page.ensures c.note.ensures
-    (c.note-then-placed.ensures ∙ ap (λ (p : List ℕ). c.self.inside.pages ++ p ∷ []) c.whole.ensures)
+    (c.note-then-placed.ensures ∙ ap (λ (p : List ℕ). c.self.inside.pages ++ p ∷ []) c.as_page.ensures)
     (c.push_reserved.ensures.items ∙ ap (λ (d : List (List ℕ)). d ++ c.digest.result ∷ []) c.reserve.ensures.items ∙ ap (λ (d : List ℕ). c.self.inside.digests.items ++ d ∷ []) c.digest.ensures)
 
 pub invariant_of-self-else-placed : goal.invariant_of-self-else-placed
@@ -33,7 +33,7 @@ returns-then-placed-clause-pushed g c = anyway c.put.result (c.note.ensures ∙ 
 
 pub returns-then-placed-clause-mine_still : goal.returns-then-placed-clause-mine_still
 returns-then-placed-clause-mine_still g c = so_too c.put.result c.put.ensures.more
-    (λ more. more c.self.inside.pages (c.requires.mine ∙ ap (λ (b : Building). Some b.pages) (sym c.self.view_is)) ∙ ap (λ (pages : List (List ℕ)). Some pages) (sym (c.note-then-placed.ensures ∙ ap (λ (p : List ℕ). c.self.inside.pages ++ p ∷ []) c.whole.ensures)))
+    (λ more. more c.self.inside.pages (c.requires.mine ∙ ap (λ (b : Building). Some b.pages) (sym c.self.view_is)) ∙ ap (λ (pages : List (List ℕ)). Some pages) (sym (c.note-then-placed.ensures ∙ ap (λ (p : List ℕ). c.self.inside.pages ++ p ∷ []) c.as_page.ensures)))
 
 pub returns-then-placed-clause-short : goal.returns-then-placed-clause-short
 returns-then-placed-clause-short g c =
