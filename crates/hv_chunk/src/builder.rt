@@ -1,7 +1,8 @@
 // A chunk in the making.
-ghost use Rattle.std.specs.Prelude.{◌≡◌, ℕ, List, Some, Err, true, false, [], ◌∷◌, ◌++◌, ◌<◌, ◌≤◌, length, IfOk, IfErr, IsSome, OnOk, OnErr};
+ghost use Rattle.std.specs.Prelude.{◌≡◌, ℕ, List, Some, Err, [], ◌∷◌, ◌++◌, ◌<◌, ◌≤◌, length, IfOk, IfErr, IsSome, OnOk, OnErr};
 ghost use Rattle.hv_row.specs.Row.{RowFits, row_bytes};
 ghost use Rattle.hv_dev.specs.Fault.{IsCaused};
+ghost use Rattle.hv_dev.specs.declared.sink.PutFault.TheVariants as unput;
 ghost use Rattle.hv_heap.specs.Writer.{page_now};
 ghost use Rattle.hv_view.specs.View.{IsBuilt};
 ghost use Rattle.hv_chunk.specs.Building.{Building, IsBuildFault};
@@ -78,13 +79,15 @@ impl ChunkBuilder {
     {
         // Room for a digest first: nothing wants memory once the row is placed.
         let Ok(()) = self.digests.reserve(1) else {
-            let bytes = row_length(row.as_slice(), self.schema.columns());
-            return Err(refuse(port, bytes > MAX_ROW_BYTES as usize));
+            if row_length(row.as_slice(), self.schema.columns()) > MAX_ROW_BYTES as usize {
+                return Err(BuildFault::TooLong);
+            }
+            return Err(give_up(port, PutFault::Memory));
         };
         let placed = match self.writer.add(&row) {
             Ok(placed) => placed,
-            Err(RowFault::TooLong { .. }) => return Err(refuse(port, true)),
-            Err(RowFault::Memory) => return Err(refuse(port, false)),
+            Err(RowFault::TooLong { .. }) => return Err(BuildFault::TooLong),
+            Err(RowFault::Memory) => return Err(give_up(port, PutFault::Memory)),
         };
         self.row_count += 1;
         self.rows.note(&row);
@@ -141,20 +144,6 @@ impl ChunkBuilder {
     }
 }
 
-// Says why a row isn't placed: it is too long, or memory ran out and the open file is given up.
-fn refuse<P: PageSink>(port: &mut P, long: bool) -> BuildFault
-    ensures long { long ≡ true → (result ≡ TooLong) × (port.new ≡ port.old) }
-    ensures memory { long ≡ false → (result ≡ Memory) × (P.written port.new ≡ Some []) }
-    ensures calm { P.write_faults port.new ≡ P.write_faults port.old }
-    ensures kept { P.reading port.new ≡ P.reading port.old }
-{
-    if long {
-        return BuildFault::TooLong;
-    }
-    port.abandon();
-    BuildFault::Memory
-}
-
 // Puts a page behind those of the open file, which is given up where that fails.
 fn put<P: PageSink>(port: &mut P, alloc: Global, page: &[u8]) -> Result<(), BuildFault>
     requires page { length page.now ≡ 4096 }
@@ -192,8 +181,7 @@ fn put_last<P: PageSink>(
     }
     let page = writer.page();
     let Ok(()) = digests.push(digest(page)) else {
-        port.abandon();
-        return Err(BuildFault::Memory);
+        return Err(give_up(port, PutFault::Memory));
     };
     put(port, alloc, page)
 }
@@ -203,6 +191,7 @@ fn give_up<P: PageSink>(port: &mut P, fault: PutFault) -> BuildFault
     ensures next { P.written port.new ≡ Some [] }
     ensures calm { P.write_faults port.new ≡ P.write_faults port.old }
     ensures cause { (long before : ℕ) → long ≤ 2000 → IsCaused fault before (P.write_faults port.old) → IsBuildFault result long before (P.write_faults port.old) }
+    ensures memory { fault ≡ unput.Memory → result ≡ Memory }
     ensures kept { P.reading port.new ≡ P.reading port.old }
 {
     port.abandon();
