@@ -2,7 +2,7 @@
 use Rattle.std.proofs.Common.{◌≡◌, ℕ, ◌-◌, ◌<◌, nat_le, nat_lt, Bool, true, false, ◌&&◌, ◌||◌, cond, List, [], ◌∷◌, length, map, Option, Some, None, refl, sym, ap, subst, ◌∙◌, arith}
 use Rattle.std.specs.List.{list_any, list_all, flat_map, position_or_len}
 use Rattle.std.specs.Option.{option_or, unwrap_or}
-use Rattle.std.proofs.lemmas.Bool.{lt-ltb, ltb-true}
+use Rattle.std.proofs.lemmas.Bool.{lt-ltb, ltb-true, and_from, and_parts, or_parts}
 use Rattle.std.proofs.lemmas.Bool.Decides.{nat_tests}
 use Rattle.std.proofs.lemmas.List.{length-map}
 use Rattle.std.proofs.lemmas.List.Folds.{list_all-append, list_all-map}
@@ -36,7 +36,7 @@ use Rattle.hv_row.specs.declared.schema.Column.{Column}
 use Rattle.hv_model.specs.Scope.{all_columns}
 use Rattle.hv_model.specs.Fits.{kind_of, is_column, operand_kind, same_kind, is_int, fits_step, cond_fits, item_fits, is_grouped_item, is_plain_item, FitsSchemas}
 use Rattle.hv_model.specs.Bound.{first_of, unless, schemas_of, ref_of, operand_of, cond_step, cond_of, items_of, all_items, is_item, item_number, key_item, key_of, is_aggregate, is_any, is_grouped, bound_query, ref_refusal, item_refusal, operand_refusal, test_refusal, refusal_step, cond_refusal, key_refusal, names_refusal, is_among, plain_refusal, grouping_refusal, if_none, order_refusal, bind_refusal}
-use Rattle.hv_bind.proofs.Standing.{both, parts, ref_stands, columns_stand}
+use Rattle.hv_bind.proofs.Standing.{ref_stands, columns_stand}
 
 -- ---- points of which none stands
 
@@ -57,13 +57,13 @@ all_pass : {X : Type 0} (point : X → Option Refusal) (test : X → Bool) → (
 all_pass point test each [] none = refl
 all_pass point test each (x ∷ xs) none =
     let n = none_first (point x) (first_of (map point xs)) none in
-    both (test x) (list_all test xs) (each x n.0) (all_pass point test each xs n.1)
+    and_from (test x) (list_all test xs) (each x n.0) (all_pass point test each xs n.1)
 
 all_in : {X Y : Type 0} (point : X → Option Refusal) (test : Y → Bool) (f : X → List Y) → ((x : X) → point x ≡ None → list_all test (f x) ≡ true) → (xs : List X) → first_of (map point xs) ≡ None → list_all test (flat_map f xs) ≡ true
 all_in point test f each [] none = refl
 all_in point test f each (x ∷ xs) none =
     let n = none_first (point x) (first_of (map point xs)) none in
-    list_all-append test (f x) (flat_map f xs) ∙ both (list_all test (f x)) (list_all test (flat_map f xs)) (each x n.0) (all_in point test f each xs n.1)
+    list_all-append test (f x) (flat_map f xs) ∙ and_from (list_all test (f x)) (list_all test (flat_map f xs)) (each x n.0) (all_in point test f each xs n.1)
 
 -- ---- conditions
 
@@ -90,7 +90,7 @@ members_fit places heads [] none = refl
 members_fit places heads (c ∷ cs) none =
     let S = schemas_of heads in
     let n = none_first (cond_refusal places heads c.0) (first_of (map (cond_refusal places heads) (map (λ c. c.0) cs))) none in
-    both (cond_fits S (cond_of places heads c.0)) (list_all (λ b. b) (map (cond_fits S) (map (cond_of places heads) (map (λ c. c.0) cs)))) (c.1 n.0) (members_fit places heads cs n.1)
+    and_from (cond_fits S (cond_of places heads c.0)) (list_all (λ b. b) (map (cond_fits S) (map (cond_of places heads) (map (λ c. c.0) cs)))) (c.1 n.0) (members_fit places heads cs n.1)
 
 test_fits : (places : List PlaceAst) (heads : List TableHead) (left right : OperandAst) (byte : ℕ) → test_refusal places heads left right byte ≡ None → same_kind (operand_kind (schemas_of heads) (operand_of places heads left)) (operand_kind (schemas_of heads) (operand_of places heads right)) ≡ true
 test_fits places heads left right byte none =
@@ -127,7 +127,7 @@ cond_fit places heads = ind-CondAst (Fit places heads) (λ x y is. subst (λ (z 
 -- ---- items
 
 one : (b : Bool) → b ≡ true → (b && true) ≡ true
-one b e = both b true e refl
+one b e = and_from b true e refl
 
 items_fit : (places : List PlaceAst) (heads : List TableHead) (x : ItemAst) → item_refusal places heads x ≡ None → list_all (item_fits (schemas_of heads)) (items_of places heads x) ≡ true
 items_fit places heads (it.Star byte) none = list_all-map (item_fits (schemas_of heads)) item.Col (all_columns heads) ∙ columns_stand heads
@@ -165,16 +165,12 @@ items_plain places heads (it.Sum r) plain = absurd cc
 items_plain places heads (it.Least r) plain = absurd cc
 items_plain places heads (it.Greatest r) plain = absurd cc
 
-neither : (a b : Bool) → (a || b) ≡ false → (a ≡ false) × (b ≡ false)
-neither true b e = absurd cc
-neither false b e = (refl, e)
-
 all_plain : (places : List PlaceAst) (heads : List TableHead) (xs : List ItemAst) → list_any is_aggregate xs ≡ false → list_all is_plain_item (all_items places heads xs) ≡ true
 all_plain places heads [] plain = refl
 all_plain places heads (x ∷ xs) plain =
-    let n = neither (is_aggregate x) (list_any is_aggregate xs) plain in
+    let n = or_parts (is_aggregate x) (list_any is_aggregate xs) plain in
     list_all-append is_plain_item (items_of places heads x) (all_items places heads xs)
-    ∙ both (list_all is_plain_item (items_of places heads x)) (list_all is_plain_item (all_items places heads xs)) (items_plain places heads x n.0) (all_plain places heads xs n.1)
+    ∙ and_from (list_all is_plain_item (items_of places heads x)) (list_all is_plain_item (all_items places heads xs)) (items_plain places heads x n.0) (all_plain places heads xs n.1)
 
 -- ---- order keys
 
@@ -184,7 +180,7 @@ within_if false m count r within none = absurd cc
 
 written_within : (n count : ℕ) (r : Refusal) → if_none (cond (nat_le 1 n && nat_le n count) (Some (n - 1)) None) r ≡ None → nat_lt (unwrap_or (cond (nat_le 1 n && nat_le n count) (Some (n - 1)) None) 0) count ≡ true
 written_within n count r none =
-    within_if (nat_le 1 n && nat_le n count) (n - 1) count r (λ both. let p = parts (nat_le 1 n) (nat_le n count) both in grind (arith, nat_tests)) none
+    within_if (nat_le 1 n && nat_le n count) (n - 1) count r (λ both. let p = and_parts (nat_le 1 n) (nat_le n count) both in grind (arith, nat_tests)) none
 
 found_within : (items : List Item) (ref : ColRef) (r : Refusal) → if_none (item_number items ref) r ≡ None → nat_lt (unwrap_or (item_number items ref) 0) (length items) ≡ true
 found_within items ref r none =
@@ -225,5 +221,5 @@ query_fits x heads len alone none =
           ∙ all_pass (λ k. if_none (key_item P heads items k.by) (NoOutput k.byte)) (λ k. nat_lt (unwrap_or (key_item P heads items k.by) 0) (length items)) (λ k. key_within P heads items k.by (NoOutput k.byte)) x.order c.0;
       one_place = λ grouped. length-map heads (λ h. h.schema) ∙ len ∙ alone grouped;
       grouped = λ grouped. all_in (plain_refusal P heads columns) (is_grouped_item columns) (items_of P heads) (items_grouped P heads columns) x.items (where_true (is_grouped x) (first_of (map (plain_refusal P heads columns) x.items)) grouped b.0);
-      plain = λ plain. all_plain P heads x.items (neither (is_any x.groups) (list_any is_aggregate x.items) plain).1;
+      plain = λ plain. all_plain P heads x.items (or_parts (is_any x.groups) (list_any is_aggregate x.items) plain).1;
     }

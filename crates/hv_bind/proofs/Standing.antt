@@ -3,6 +3,7 @@ use Rattle.std.proofs.Common.{◌≡◌, ℕ, zero, suc, ◌+◌, ◌<◌, Bool,
 use Rattle.std.specs.Prelude.{Result, Ok, Err, is_some, slice_get}
 use Rattle.std.specs.List.{list_all, cons_option}
 use Rattle.std.specs.Option.{option_map, option_and_then}
+use Rattle.std.proofs.lemmas.Bool.{and_from, and_parts}
 use Rattle.std.proofs.lemmas.List.Folds.{list_all-append}
 use Rattle.std.proofs.lemmas.List.Quantifiers.{position-Some}
 use Rattle.std.proofs.lemmas.Option.{slice_get-map, option_and_then_some}
@@ -18,13 +19,6 @@ use Rattle.hv_model.specs.Fits.{is_column}
 use Rattle.hv_model.specs.Bound.{refusal_in, schemas_of, found, ref_of, ref_refusal}
 
 -- ---- lists
-
-pub both : (a b : Bool) → a ≡ true → b ≡ true → (a && b) ≡ true
-both a b e f = cc
-
-pub parts : (a b : Bool) → (a && b) ≡ true → (a ≡ true) × (b ≡ true)
-parts true b e = (refl, e)
-parts false b e = absurd cc
 
 there : {X : Type 0} (xs : List X) (i : ℕ) → i < length xs → (x : X) × (slice_get xs i ≡ Some x)
 there [] i lt = absurd (omega arith)
@@ -57,7 +51,7 @@ column_stands heads place column h is lt =
 
 named_here : (S : List (List Column)) (at : ℕ) (o : Option ℕ) (rest : List ColRef) → ((k : ℕ) → o ≡ Some k → is_column S (column_at at k) ≡ true) → list_all (is_column S) rest ≡ true → list_all (is_column S) (cons_option (option_map (column_at at) o) rest) ≡ true
 named_here S at None rest here all = all
-named_here S at (Some k) rest here all = both (is_column S (column_at at k)) (list_all (is_column S) rest) (here k refl) all
+named_here S at (Some k) rest here all = and_from (is_column S (column_at at k)) (list_all (is_column S) rest) (here k refl) all
 
 number_within : (columns : List Column) (name : List ℕ) (k : ℕ) → column_number columns name ≡ Some k → k < length columns
 number_within [] name k e = absurd cc
@@ -72,7 +66,7 @@ named_stand heads name at (h ∷ hs) stand =
 
 one_stands : (test : ColRef → Bool) (cs : List ColRef) (byte : ℕ) (c : ColRef) → list_all test cs ≡ true → the_one cs byte ≡ Ok c → test c ≡ true
 one_stands test [] byte c all e = absurd cc
-one_stands test (d ∷ []) byte c all e = let same : d ≡ c = cc in subst (λ (x : ColRef). test x ≡ true) same (parts (test d) true all).0
+one_stands test (d ∷ []) byte c all e = let same : d ≡ c = cc in subst (λ (x : ColRef). test x ≡ true) same (and_parts (test d) true all).0
 one_stands test (d ∷ d' ∷ cs) byte c all e = absurd cc
 
 -- ---- references
@@ -113,7 +107,7 @@ ref_stands places heads r none =
 from_stand : (test : ColRef → Bool) (place at : ℕ) (cs : List Column) → ((k : ℕ) → k < at + length cs → test (column_at place k) ≡ true) → list_all test (columns_from place at cs) ≡ true
 from_stand test place at [] each = refl
 from_stand test place at (c ∷ cs) each =
-    both (test (column_at place at)) (list_all test (columns_from place (at + 1) cs)) (each at (omega arith))
+    and_from (test (column_at place at)) (list_all test (columns_from place (at + 1) cs)) (each at (omega arith))
     (from_stand test place (at + 1) cs (λ k lt. each k (omega arith)))
 
 places_stand : (heads : List TableHead) (at : ℕ) (hs : List TableHead) → Stand heads at hs → list_all (is_column (schemas_of heads)) (columns_of_places at hs) ≡ true
@@ -121,7 +115,7 @@ places_stand heads at [] stand = refl
 places_stand heads at (h ∷ hs) stand =
     let S = schemas_of heads in
     list_all-append (is_column S) (columns_from at 0 h.schema) (columns_of_places (at + 1) hs)
-    ∙ both (list_all (is_column S) (columns_from at 0 h.schema)) (list_all (is_column S) (columns_of_places (at + 1) hs))
+    ∙ and_from (list_all (is_column S) (columns_from at 0 h.schema)) (list_all (is_column S) (columns_of_places (at + 1) hs))
     (from_stand (is_column S) at 0 h.schema (λ k lt. column_stands heads at k h (stand_here heads at h hs stand) (omega arith)))
     (places_stand heads (at + 1) hs (stand_on heads at h hs stand))
 
