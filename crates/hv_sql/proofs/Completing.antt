@@ -14,7 +14,7 @@ use Rattle.hv_model.specs.Lexed.{what_of, lexeme_of, lexemes_of, lexemes}
 use Rattle.hv_model.specs.Fault.{IsStatement, IsFaultBy, place_of}
 use Rattle.hv_sql.specs.Completion.{before, Completed, FaultsCompleted, FaultsFinal}
 use Rattle.hv_sql.proofs.Plain.{is_plain}
-use Rattle.hv_sql.proofs.LexingLaws.{tokens_in_order}
+use Rattle.hv_sql.proofs.LexingLaws.{order_le, tokens_in_order}
 use Rattle.hv_sql.proofs.Cut.{EndsBy, starts_at, Cut, cut}
 use Rattle.hv_sql.proofs.Spelt.{spelt, spelt_apart, spelt_whats}
 use Rattle.hv_sql.proofs.OneReading.{plain_fault, faults_complete}
@@ -141,16 +141,8 @@ order_some : (at end : ℕ) (ts : List Token) (t : Token) (us : List Token) → 
 order_some at end [] t us h = h.1
 order_some at end (s ∷ ts) t us h = order_some s.to end ts t us h.2
 
-order_end : (at end : ℕ) (ts : List Token) → InOrder at end ts → at ≤ end
-order_end at end [] h = h
-order_end at end (t ∷ ts) h =
-    let more = order_end t.to end ts h.2 in
-    let x = h.0 in
-    let y = h.1 in
-    omega (arith, more, x, y)
-
 order_within : (at end : ℕ) (ts : List Token) (t : Token) (us : List Token) → InOrder at end (ts ++ t ∷ us) → t.to ≤ end
-order_within at end [] t us h = order_end t.to end us h.2
+order_within at end [] t us h = order_le t.to end us h.2
 order_within at end (s ∷ ts) t us h = order_within s.to end ts t us h.2
 
 order_ends : (at end : ℕ) (ts : List Token) (t : Token) (us : List Token) → InOrder at end (ts ++ t ∷ us) → EndsBy t.to (ts ++ t ∷ [])

@@ -41,7 +41,8 @@ tokens_in_order text =
     let f : 0 + length text ≡ length text = omega arith in
     subst (λ (k : ℕ). InOrder 0 k (tokens_of text)) f (in_order text 0 0 (omega arith))
 
-order_le : (at end : ℕ) (ts : List Token) → InOrder at end ts → at ≤ end
+-- tokens in order begin at their end or before
+pub order_le : (at end : ℕ) (ts : List Token) → InOrder at end ts → at ≤ end
 order_le at end [] h = h
 order_le at end (t ∷ ts) h = let more = order_le t.to end ts h.2 in let first = h.0 in let some = h.1 in omega arith
 
