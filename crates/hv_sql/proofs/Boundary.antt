@@ -1,7 +1,7 @@
 -- Bytes that begin with a space and have no quote leave the token before them as it is.
 use Rattle.std.proofs.Common.{◌≡◌, ◌⊎◌, ℕ, ◌+◌, ◌-◌, ◌<◌, ◌≤◌, zero, suc, Bool, true, false, cond, not, ◌&&◌, eqb, List, [], ◌∷◌, ◌++◌, length, take, refl, ap, sym, ◌∙◌, inl, inr, arith}
 use Rattle.std.specs.List.{list_all}
-use Rattle.std.proofs.lemmas.Bool.{and_parts, cases_eq, cases_lt, cases_Bool, cond-false, cond_both, false_from_ne_true, false≢true}
+use Rattle.std.proofs.lemmas.Bool.{and_parts, and_right, not-true, cases_eq, cases_lt, cases_Bool, cond-false, cond_both, false_from_ne_true, false≢true}
 use Rattle.std.proofs.lemmas.List.{take-append-le, length-append}
 use Rattle.std.proofs.lemmas.Slice.Eq.{bytes_eq-Decides}
 use Rattle.std.proofs.Math.Seq.{take-append-add}
@@ -23,18 +23,10 @@ abbrev pub Apart : List ℕ → Type 0
 Apart [] = Unit {0}
 Apart (b ∷ bs) = (b ≡ 32) × (quoteless bs ≡ true)
 
-and_false : (a b : Bool) → b ≡ false → (a && b) ≡ false
-and_false true b e = e
-and_false false b e = refl
-
-not_true : (a : Bool) → not a ≡ true → a ≡ false
-not_true true e = absurd (false≢true e)
-not_true false e = refl
-
 -- bytes do not all pass where one between them fails
 all_stops : (p : ℕ → Bool) (xs ys : List ℕ) (y : ℕ) → p y ≡ false → list_all p (xs ++ y ∷ ys) ≡ false
 all_stops p [] ys y e = rw e refl
-all_stops p (x ∷ xs) ys y e = and_false (p x) (list_all p (xs ++ y ∷ ys)) (all_stops p xs ys y e)
+all_stops p (x ∷ xs) ys y e = and_right (p x) (list_all p (xs ++ y ∷ ys)) (all_stops p xs ys y e)
 
 pub all_take : (p : ℕ → Bool) (n : ℕ) (xs : List ℕ) → list_all p xs ≡ true → list_all p (take n xs) ≡ true
 all_take p zero xs h = refl
@@ -48,7 +40,7 @@ closes_none : (bs : List ℕ) → quoteless bs ≡ true → closes false bs ≡ 
 closes_none [] h = refl
 closes_none (b ∷ bs) h =
     let parts = and_parts (not (eqb b 39)) (quoteless bs) h in
-    cond-false (eqb b 39) (closes true bs) (closes false bs) (not_true (eqb b 39) parts.0) ∙ closes_none bs parts.1
+    cond-false (eqb b 39) (closes true bs) (closes false bs) (not-true (eqb b 39) parts.0) ∙ closes_none bs parts.1
 
 stops : (p x : Bool) → x ≡ false → cond p false x ≡ false
 stops true x e = refl

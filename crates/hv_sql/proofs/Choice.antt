@@ -1,14 +1,14 @@
 -- One of two grammars keeps the laws.
 use Rattle.std.proofs.Common.{◌≡◌, ◌⊎◌, ℕ, Bool, true, false, List, [], ◌∷◌, ◌++◌, refl, sym, ◌∙◌, ap, subst, inl, inr}
 use Rattle.std.specs.Prelude.{◌==◌, Option, Some, None, Ok, Err, if◌then◌else◌}
-use Rattle.std.proofs.lemmas.Bool.{cases_Bool, eqb-true}
+use Rattle.std.proofs.lemmas.Bool.{cases_Bool, eqb-true, both_ways, false≢true, or_from, or_cases, or_parts}
 use Rattle.hv_model.specs.declared.lexeme.Lexeme.{Lexeme}
 use Rattle.hv_model.specs.declared.lexeme.What.{What}
 use Rattle.hv_model.specs.Terminals.{kind}
 use Rattle.hv_model.specs.Grammar as g
 use Rattle.hv_model.specs.Grammar.{Grammar, ◌or◌, gives, one, more}
 use Rattle.hv_model.specs.Reading.{Reader, on_read, ◌>>=◌, gives_at, read_one, one_at, choose}
-use Rattle.hv_sql.proofs.KindSets.{member, joined, when, Avoids, Begins, or-both, or-cases, or-neither, member-joined_left, member-joined_right, Within-Avoids, Within-Begins}
+use Rattle.hv_sql.proofs.KindSets.{member, joined, when, Avoids, Begins, member-joined_left, member-joined_right, Within-Avoids, Within-Begins}
 use Rattle.hv_sql.proofs.Lawful.{Took, Failed, Lawful, LawfulBy, head_is, ok_no_err, fault_is}
 
 -- ---- one of two
@@ -63,24 +63,21 @@ module _ {A : Type 0} (n : ℕ) (p q : Reader A) where
 
   pub takes_first : (lexemes : List Lexeme) → Begins (n ∷ []) lexemes → choose n p q lexemes ≡ p lexemes
   takes_first [] b = absurd b
-  takes_first (t ∷ ts) b = chosen_first t ts (elim (or-cases (kind t == n) false b) [
+  takes_first (t ∷ ts) b = chosen_first t ts (elim (or_cases (kind t == n) false b) [
     | inl e ↦ e
     | inr e ↦ absurd cc
   ])
 
   pub takes_second : (lexemes : List Lexeme) → Avoids (n ∷ []) lexemes → choose n p q lexemes ≡ q lexemes
   takes_second [] b = refl
-  takes_second (t ∷ ts) b = chosen_second t ts (or-neither (kind t == n) false b).0
+  takes_second (t ∷ ts) b = chosen_second t ts (or_parts (kind t == n) false b).0
 
   pub begins_other : (heads' : List ℕ) → member n heads' ≡ false → (lexemes : List Lexeme) → Begins heads' lexemes → Avoids (n ∷ []) lexemes
   begins_other heads' h [] b = absurd b
-  begins_other heads' h (t ∷ ts) b = or-both (kind t == n) false (elim (cases_Bool (kind t == n)) [
-    | inl e ↦ absurd (not_both _ (subst (λ z. member z heads' ≡ true) (eqb-true (kind t) n e) b) h)
+  begins_other heads' h (t ∷ ts) b = or_from (kind t == n) false (elim (cases_Bool (kind t == n)) [
+    | inl e ↦ absurd (both_ways _ h (subst (λ z. member z heads' ≡ true) (eqb-true (kind t) n e) b))
     | inr e ↦ e
   ]) refl
-    where
-      not_both : (b : Bool) → b ≡ true → b ≡ false → ⊥
-      not_both b e f = cc
 
   module _ {good : What → Bool} {R S : Grammar A} {bars bars' heads' : List ℕ} {empty' : Bool} {word word' : List What} (l : Lawful bars (n ∷ []) false word R p) (m : LawfulBy good bars' heads' empty' word' S q) where
     pub choose_reads : (lexemes rest : List Lexeme) (a : A) → choose n p q lexemes ≡ Ok (a, rest) → Took (R or S) (choose n p q) lexemes rest a
@@ -97,11 +94,8 @@ module _ {A : Type 0} (n : ℕ) (p q : Reader A) where
     pub choose_starts : (lexemes rest : List Lexeme) (a : A) → (R or S) lexemes rest a → Begins (n ∷ heads') lexemes ⊎ ((lexemes ≡ rest) × (empty' ≡ true))
     choose_starts lexemes rest a (inl r) = elim (l.starts lexemes rest a r) [
       | inl s ↦ inl (Within-Begins (n ∷ []) (n ∷ heads') lexemes (λ k. member-joined_left k (n ∷ []) heads') s)
-      | inr s ↦ absurd (false_no_true s.1)
+      | inr s ↦ absurd (false≢true s.1)
     ]
-      where
-        false_no_true : false ≡ true → ⊥
-        false_no_true e = cc
     choose_starts lexemes rest a (inr r) = elim (m.starts lexemes rest a r) [
       | inl s ↦ inl (Within-Begins heads' (n ∷ heads') lexemes (λ k. member-joined_right k (n ∷ []) heads') s)
       | inr s ↦ inr s
@@ -112,11 +106,8 @@ module _ {A : Type 0} (n : ℕ) (p q : Reader A) where
     choose_complete h lexemes rest a (inl r) s = elim (l.starts lexemes rest a r) [
       | inl b ↦ takes_first lexemes b ∙ l.complete lexemes rest a r (Within-Avoids bars (joined (when empty' (n ∷ [])) (joined bars bars')) rest
           (λ k e. member-joined_right k (when empty' (n ∷ [])) (joined bars bars') (member-joined_left k bars bars' e)) s)
-      | inr b ↦ absurd (false_no_true b.1)
+      | inr b ↦ absurd (false≢true b.1)
     ]
-      where
-        false_no_true : false ≡ true → ⊥
-        false_no_true e = cc
     choose_complete h lexemes rest a (inr r) s = takes_second lexemes (go (m.starts lexemes rest a r)) ∙ m.complete lexemes rest a r
         (Within-Avoids bars' (joined (when empty' (n ∷ [])) (joined bars bars')) rest
         (λ k e. member-joined_right k (when empty' (n ∷ [])) (joined bars bars') (member-joined_right k bars bars' e)) s)

@@ -1,7 +1,7 @@
 -- Sets of kinds: of lexemes that may begin a tree, or may not follow one.
 use Rattle.std.proofs.Common.{◌≡◌, ◌⊎◌, ℕ, Bool, true, false, not, ◌&&◌, ◌||◌, List, [], ◌∷◌, refl, sym, subst, inl, inr}
 use Rattle.std.specs.Prelude.{◌==◌}
-use Rattle.std.proofs.lemmas.Bool.{cases_Bool, eqb-true}
+use Rattle.std.proofs.lemmas.Bool.{cases_Bool, eqb-true, both_ways, not-true, or_left, or_right, or_from, or_cases, or_parts, and_parts}
 use Rattle.hv_model.specs.declared.lexeme.Lexeme.{Lexeme}
 use Rattle.hv_model.specs.Terminals.{kind}
 
@@ -40,59 +40,25 @@ abbrev pub Begins : List ℕ → List Lexeme → Type 0
 Begins heads [] = ⊥
 Begins heads (t ∷ _) = member (kind t) heads ≡ true
 
--- ---- tests
-
-pub or-left : (a b : Bool) → a ≡ true → (a || b) ≡ true
-or-left true b e = refl
-or-left false b e = absurd cc
-
-pub or-right : (a b : Bool) → b ≡ true → (a || b) ≡ true
-or-right true b e = refl
-or-right false b e = e
-
-pub or-both : (a b : Bool) → a ≡ false → b ≡ false → (a || b) ≡ false
-or-both true b e f = e
-or-both false b e f = f
-
-pub or-cases : (a b : Bool) → (a || b) ≡ true → (a ≡ true) ⊎ (b ≡ true)
-or-cases true b e = inl refl
-or-cases false b e = inr e
-
-pub or-neither : (a b : Bool) → (a || b) ≡ false → (a ≡ false) × (b ≡ false)
-or-neither true b e = absurd cc
-or-neither false b e = (refl, e)
-
-pub and-parts : (a b : Bool) → (a && b) ≡ true → (a ≡ true) × (b ≡ true)
-and-parts true b e = (refl, e)
-and-parts false b e = absurd cc
-
-pub and-both : (a b : Bool) → a ≡ true → b ≡ true → (a && b) ≡ true
-and-both true b e f = f
-and-both false b e f = e
-
-pub not-false : (a : Bool) → not a ≡ true → a ≡ false
-not-false true e = absurd cc
-not-false false e = refl
-
 -- ---- sets
 
 pub member-joined_left : (k : ℕ) (ns ms : List ℕ) → member k ns ≡ true → member k (joined ns ms) ≡ true
 member-joined_left k [] ms h = absurd cc
-member-joined_left k (n ∷ ns) ms h = elim (or-cases (k == n) (member k ns) h) [
-  | inl e ↦ or-left (k == n) (member k (joined ns ms)) e
-  | inr e ↦ or-right (k == n) (member k (joined ns ms)) (member-joined_left k ns ms e)
+member-joined_left k (n ∷ ns) ms h = elim (or_cases (k == n) (member k ns) h) [
+  | inl e ↦ or_left (k == n) (member k (joined ns ms)) e
+  | inr e ↦ or_right (k == n) (member k (joined ns ms)) (member-joined_left k ns ms e)
 ]
 
 pub member-joined_right : (k : ℕ) (ns ms : List ℕ) → member k ms ≡ true → member k (joined ns ms) ≡ true
 member-joined_right k [] ms h = h
-member-joined_right k (n ∷ ns) ms h = or-right (k == n) (member k (joined ns ms)) (member-joined_right k ns ms h)
+member-joined_right k (n ∷ ns) ms h = or_right (k == n) (member k (joined ns ms)) (member-joined_right k ns ms h)
 
 pub member-joined_cases : (k : ℕ) (ns ms : List ℕ) → member k (joined ns ms) ≡ true → (member k ns ≡ true) ⊎ (member k ms ≡ true)
 member-joined_cases k [] ms h = inr h
-member-joined_cases k (n ∷ ns) ms h = elim (or-cases (k == n) (member k (joined ns ms)) h) [
-  | inl e ↦ inl (or-left (k == n) (member k ns) e)
+member-joined_cases k (n ∷ ns) ms h = elim (or_cases (k == n) (member k (joined ns ms)) h) [
+  | inl e ↦ inl (or_left (k == n) (member k ns) e)
   | inr e ↦ elim (member-joined_cases k ns ms e) [
-    | inl f ↦ inl (or-right (k == n) (member k ns) f)
+    | inl f ↦ inl (or_right (k == n) (member k ns) f)
     | inr f ↦ inr f
   ]
 ]
@@ -100,24 +66,24 @@ member-joined_cases k (n ∷ ns) ms h = elim (or-cases (k == n) (member k (joine
 pub member-joined_neither : (k : ℕ) (ns ms : List ℕ) → member k (joined ns ms) ≡ false → (member k ns ≡ false) × (member k ms ≡ false)
 member-joined_neither k [] ms h = (refl, h)
 member-joined_neither k (n ∷ ns) ms h =
-    let both = or-neither (k == n) (member k (joined ns ms)) h in
+    let both = or_parts (k == n) (member k (joined ns ms)) h in
     let more = member-joined_neither k ns ms both.1 in
-    (or-both (k == n) (member k ns) both.0 more.0, more.1)
+    (or_from (k == n) (member k ns) both.0 more.0, more.1)
 
 pub apart-member : (k : ℕ) (ns ms : List ℕ) → apart ns ms ≡ true → member k ns ≡ true → member k ms ≡ false
 apart-member k [] ms a h = absurd cc
 apart-member k (n ∷ ns) ms a h =
-    let both = and-parts (not (member n ms)) (apart ns ms) a in
-    elim (or-cases (k == n) (member k ns) h) [
-      | inl e ↦ subst (λ z. member z ms ≡ false) (sym (eqb-true k n e)) (not-false (member n ms) both.0)
+    let both = and_parts (not (member n ms)) (apart ns ms) a in
+    elim (or_cases (k == n) (member k ns) h) [
+      | inl e ↦ subst (λ z. member z ms ≡ false) (sym (eqb-true k n e)) (not-true (member n ms) both.0)
       | inr e ↦ apart-member k ns ms both.1 e
     ]
 
 pub within-member : (k : ℕ) (ns ms : List ℕ) → within ns ms ≡ true → member k ns ≡ true → member k ms ≡ true
 within-member k [] ms w h = absurd cc
 within-member k (n ∷ ns) ms w h =
-    let both = and-parts (member n ms) (within ns ms) w in
-    elim (or-cases (k == n) (member k ns) h) [
+    let both = and_parts (member n ms) (within ns ms) w in
+    elim (or_cases (k == n) (member k ns) h) [
       | inl e ↦ subst (λ z. member z ms ≡ true) (sym (eqb-true k n e)) both.0
       | inr e ↦ within-member k ns ms both.1 e
     ]
@@ -129,12 +95,9 @@ Within ns ms = (k : ℕ) → member k ns ≡ true → member k ms ≡ true
 pub Within-Avoids : (ns ms : List ℕ) (lexemes : List Lexeme) → Within ns ms → Avoids ms lexemes → Avoids ns lexemes
 Within-Avoids ns ms [] w h = tt
 Within-Avoids ns ms (t ∷ ts) w h = elim (cases_Bool (member (kind t) ns)) as (λ _. member (kind t) ns ≡ false) [
-  | inl e ↦ absurd (not_both _ (w (kind t) e) h)
+  | inl e ↦ absurd (both_ways _ h (w (kind t) e))
   | inr e ↦ e
 ]
-  where
-    not_both : (b : Bool) → b ≡ true → b ≡ false → ⊥
-    not_both b e f = cc
 
 pub Within-Begins : (ns ms : List ℕ) (lexemes : List Lexeme) → Within ns ms → Begins ns lexemes → Begins ms lexemes
 Within-Begins ns ms [] w h = h

@@ -1,13 +1,14 @@
 -- Lists, and what may be left out, keep the laws.
 use Rattle.std.proofs.Common.{◌≡◌, ℕ, zero, suc, ◌<◌, ◌≤◌, ◌+◌, Bool, true, false, not, ◌&&◌, ◌||◌, List, [], ◌∷◌, ◌++◌, length, refl, sym, ◌∙◌, ap, subst, inl, inr, append-nil, length-append, arith}
 use Rattle.std.specs.Prelude.{◌==◌, Some, None, Ok, Err, if◌then◌else◌}
+use Rattle.std.proofs.lemmas.Bool.{both_ways, false≢true, or_left, or_right, or_cases}
 use Rattle.std.proofs.lemmas.List.{append_cancel_right}
 use Rattle.hv_model.specs.declared.lexeme.Lexeme.{Lexeme}
 use Rattle.hv_model.specs.declared.lexeme.What.{What}
 use Rattle.hv_model.specs.Terminals.{kind}
 use Rattle.hv_model.specs.Grammar.{Grammar, More, optional, given, more_up_to, more, list_of, list_of_up_to}
 use Rattle.hv_model.specs.Reading.{Read, Reader, on_read, ◌>>=◌, gives_at, optional_at, given_at, more_up_to_at, more_at, list_of_at, list_of_up_to_at}
-use Rattle.hv_sql.proofs.KindSets.{member, joined, apart, within, Avoids, Begins, or-left, or-right, or-cases, member-joined_left, member-joined_cases, within-member, Within}
+use Rattle.hv_sql.proofs.KindSets.{member, joined, apart, within, Avoids, Begins, member-joined_left, member-joined_cases, within-member, Within}
 use Rattle.hv_sql.proofs.Lawful.{Took, Failed, Lawful, weaken, no_whats, gives_lawful}
 use Rattle.hv_sql.proofs.Sequence.{seq, seq_}
 use Rattle.hv_sql.proofs.Choice.{either}
@@ -22,16 +23,16 @@ pub member_nil : (k : ℕ) → member k [] ≡ true → ⊥
 member_nil k e = cc
 
 pub loop_bars : (n : ℕ) (bars : List ℕ) → Within (n ∷ joined (joined bars (n ∷ joined bars [])) []) (n ∷ bars)
-loop_bars n bars k h = elim (or-cases (k == n) (member k (joined (joined bars (n ∷ joined bars [])) [])) h) [
-  | inl e ↦ or-left (k == n) (member k bars) e
+loop_bars n bars k h = elim (or_cases (k == n) (member k (joined (joined bars (n ∷ joined bars [])) [])) h) [
+  | inl e ↦ or_left (k == n) (member k bars) e
   | inr e ↦ elim (member-joined_cases k (joined bars (n ∷ joined bars [])) [] e) [
     | inr f ↦ absurd (member_nil k f)
     | inl f ↦ elim (member-joined_cases k bars (n ∷ joined bars []) f) [
-      | inl u ↦ or-right (k == n) (member k bars) u
-      | inr u ↦ elim (or-cases (k == n) (member k (joined bars [])) u) [
-        | inl v ↦ or-left (k == n) (member k bars) v
+      | inl u ↦ or_right (k == n) (member k bars) u
+      | inr u ↦ elim (or_cases (k == n) (member k (joined bars [])) u) [
+        | inl v ↦ or_left (k == n) (member k bars) v
         | inr v ↦ elim (member-joined_cases k bars [] v) [
-          | inl w ↦ or-right (k == n) (member k bars) w
+          | inl w ↦ or_right (k == n) (member k bars) w
           | inr w ↦ absurd (member_nil k w)
         ]
       ]
@@ -62,13 +63,10 @@ pub lost_length : {A : Type 0} {R : Grammar A} {p : Reader A} {bars heads : List
 lost_length {heads = heads} {rest = rest} {a = a} l took =
     let some : 0 < length took.front = elim (l.starts (took.front ++ []) [] a (took.whole [])) [
       | inl b ↦ front_some heads took.front b
-      | inr e ↦ absurd (no_false e.1)
+      | inr e ↦ absurd (false≢true e.1)
     ] in
     let n = ap length took.is in
     omega (arith, n, length-append took.front rest)
-  where
-    no_false : false ≡ true → ⊥
-    no_false e = cc
 
 module _ {A B : Type 0} {S : Grammar B} {R : Grammar A} {n : ℕ} {s : Reader B} {p : Reader A} {bars heads : List ℕ} {sign word : List What}
     (mark : Lawful [] (n ∷ []) false sign S s) (l : Lawful bars heads false word R p) (h : member n bars ≡ false) where
@@ -188,13 +186,10 @@ module _ {A B : Type 0} {S : Grammar B} {R : Grammar A} {n : ℕ} {s : Reader B}
 pub fits : {A : Type 0} {bars heads bars' heads' : List ℕ} {empty empty' : Bool} {word : List What} {R : Grammar A} {p : Reader A}
     → Lawful bars heads empty word R p → within bars bars' ≡ true → within heads heads' ≡ true → (not empty || empty') ≡ true → Lawful bars' heads' empty' word R p
 fits {bars = bars} {heads = heads} {bars' = bars'} {heads' = heads'} {empty = empty} {empty' = empty'} l b h e =
-    weaken l (λ k. within-member k bars bars' b) (λ k. within-member k heads heads' h) (λ f. elim (or-cases (not empty) empty' e) [
-      | inl g ↦ absurd (both (not empty) (ap not f) g)
+    weaken l (λ k. within-member k bars bars' b) (λ k. within-member k heads heads' h) (λ f. elim (or_cases (not empty) empty' e) [
+      | inl g ↦ absurd (both_ways (not empty) (ap not f) g)
       | inr g ↦ g
     ])
-  where
-    both : (b : Bool) → b ≡ false → b ≡ true → ⊥
-    both b e f = cc
 
 pub reword : {A : Type 0} {bars heads : List ℕ} {empty : Bool} {word word' : List What} {R : Grammar A} {p : Reader A} → Lawful bars heads empty word R p → word ≡ word' → Lawful bars heads empty word' R p
 reword {bars = bars} {heads = heads} {empty = empty} {R = R} {p = p} l e = subst (λ z. Lawful bars heads empty z R p) e l
@@ -211,7 +206,7 @@ given_lawful l = either (seq_ l (gives_lawful true) refl) (gives_lawful false) r
 
 pub list_bars : (n : ℕ) (bars : List ℕ) → Within (joined bars (n ∷ joined bars [])) (n ∷ bars)
 list_bars n bars k h =
-    loop_bars n bars k (or-right (k == n) (member k (joined (joined bars (n ∷ joined bars [])) [])) (member-joined_left k (joined bars (n ∷ joined bars [])) [] h))
+    loop_bars n bars k (or_right (k == n) (member k (joined (joined bars (n ∷ joined bars [])) [])) (member-joined_left k (joined bars (n ∷ joined bars [])) [] h))
 
 pub joined_nil : (ns : List ℕ) → Within (joined ns []) ns
 joined_nil ns k h = elim (member-joined_cases k ns [] h) [

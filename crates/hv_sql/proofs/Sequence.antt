@@ -2,6 +2,7 @@
 use Rattle.std.proofs.Common.{◌≡◌, ◌⊎◌, ℕ, Bool, true, ◌&&◌, List, [], ◌∷◌, ◌++◌, refl, sym, ◌∙◌, ap, subst, inl, inr, append_assoc}
 use Rattle.std.specs.Prelude.{Ok, Err}
 use Rattle.std.specs.List.{list_all}
+use Rattle.std.proofs.lemmas.Bool.{and_from}
 use Rattle.std.proofs.lemmas.List.Folds.{list_all-append}
 use Rattle.hv_model.specs.declared.lexeme.Lexeme.{Lexeme}
 use Rattle.hv_model.specs.declared.lexeme.What.{What}
@@ -9,7 +10,7 @@ use Rattle.hv_model.specs.Terminals.{whats}
 use Rattle.hv_model.specs.Grammar as g
 use Rattle.hv_model.specs.Grammar.{Grammar, Then, More, gives, one, ◌or◌, optional, given, more_up_to, more, list_of, list_of_up_to}
 use Rattle.hv_model.specs.Reading.{Read, Reader, on_read, ◌>>=◌, ◌>>◌}
-use Rattle.hv_sql.proofs.KindSets.{joined, apart, when, Avoids, Begins, and-both, member-joined_left, member-joined_right, Within-Avoids, Within-Begins, apart-Avoids}
+use Rattle.hv_sql.proofs.KindSets.{joined, apart, when, Avoids, Begins, member-joined_left, member-joined_right, Within-Avoids, Within-Begins, apart-Avoids}
 use Rattle.hv_sql.proofs.Lawful.{fault_is, ok_no_err, Took, FailedBy, LawfulBy, placed, whats-placed}
 
 -- ---- one behind another
@@ -88,7 +89,7 @@ module _ {A B : Type 0} {R : Grammar A} (p : Reader A) {Q : A → Grammar B} (q 
     front = f.front;
     is = f.is;
     more = f.more ++ word;
-    real = list_all-append good f.more word ∙ and-both _ _ f.real r;
+    real = list_all-append good f.more word ∙ and_from _ _ f.real r;
     whole = some_both f.front f.whole s;
     same = λ t us after e. ap (on_read q) (f.same t us after e);
   }
@@ -145,7 +146,7 @@ module _ {A B : Type 0} {R : Grammar A} (p : Reader A) {Q : A → Grammar B} (q 
         go (inl s) _ = inl (Within-Begins heads (joined heads (when empty heads')) lexemes (λ k. member-joined_left k heads (when empty heads')) s)
         go (inr s) (inl u) = inl (subst (λ z. Begins (joined heads (when z heads')) lexemes) (sym s.1)
             (Within-Begins heads' (joined heads heads') lexemes (λ k. member-joined_right k heads heads') (subst (Begins heads') (sym s.0) u)))
-        go (inr s) (inr u) = inr (s.0 ∙ u.0, and-both empty empty' s.1 u.1)
+        go (inr s) (inr u) = inr (s.0 ∙ u.0, and_from empty empty' s.1 u.1)
 
     bind_complete : apart heads' bars ≡ true → (lexemes rest : List Lexeme) (b : B) → Then R Q lexemes rest b → Avoids (joined (when empty' bars) bars') rest → (p >>= q) lexemes ≡ Ok (b, rest)
     bind_complete a lexemes rest b r s =
@@ -164,7 +165,7 @@ module _ {A B : Type 0} {R : Grammar A} (p : Reader A) {Q : A → Grammar B} (q 
       starts = bind_starts;
       reads = bind_reads;
       fails = bind_fails;
-      real = list_all-append good word word' ∙ and-both _ _ l.real real';
+      real = list_all-append good word word' ∙ and_from _ _ l.real real';
       some = some_both [] l.some (λ a. (m a).some);
     }
 
