@@ -1,13 +1,16 @@
 // The places of a select.
-ghost use Rattle.std.specs.Prelude.{◌≡◌};
+ghost use Rattle.std.specs.Prelude.{◌≡◌, true};
+ghost use Rattle.std.specs.List.{list_any};
+ghost use Rattle.hv_model.specs.Sql.{is_aggregate};
 ghost use Rattle.hv_model.specs.SqlReading.{alias_at, place_at, places_at};
 ghost use Rattle.hv_sql.specs.Code.{Gives};
 
+use crate::item::has_aggregate;
 use crate::rest::Rest;
 use crate::rule::{Rule, list_of};
 use crate::stop::Stop;
 use crate::terminal::{NAME, keyword, name, next_is, next_word};
-use hv_model::{Keyword, PlaceAst, PlaceAsts, Word};
+use hv_model::{ItemAsts, Keyword, PlaceAst, PlaceAsts, Word};
 use hv_row::Listed;
 use std::alloc::Global;
 
@@ -42,20 +45,28 @@ impl Rule for PlaceAst {
     }
 }
 
-/// `place { , place }`, or one place alone.
+/// One place alone.
+#[tactic(auto, unfolding(hv_model::specs::SqlReading::places_at))]
+fn only_place<'a>(alloc: Global, lexemes: Rest<'a>) -> Result<(PlaceAsts, Rest<'a>), Stop<'a>>
+    ensures { Gives result (places_at true lexemes.entry) }
+{
+    let (place, rest) = PlaceAst::read(alloc, lexemes)?;
+    let mut places = Listed::new(alloc);
+    places.push(place)?;
+    Ok((places, rest))
+}
+
+/// `place { , place }`; behind items with an aggregate, one place alone.
 #[tactic(auto, unfolding(hv_model::specs::SqlReading::places_at))]
 pub fn places<'a>(
     alloc: Global,
-    alone: bool,
+    items: &ItemAsts,
     lexemes: Rest<'a>,
 ) -> Result<(PlaceAsts, Rest<'a>), Stop<'a>>
-    ensures { Gives result (places_at alone lexemes.entry) }
+    ensures { Gives result (places_at (list_any is_aggregate items.now) lexemes.entry) }
 {
-    if alone {
-        let (place, rest) = PlaceAst::read(alloc, lexemes)?;
-        let mut places = Listed::new(alloc);
-        places.push(place)?;
-        Ok((places, rest))
+    if has_aggregate(items) {
+        only_place(alloc, lexemes)
     } else {
         list_of(alloc, lexemes)
     }

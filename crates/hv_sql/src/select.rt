@@ -4,7 +4,7 @@ ghost use Rattle.hv_model.specs.SqlReading.{select_at};
 ghost use Rattle.hv_sql.specs.Code.{Gives};
 
 use crate::condition::where_part;
-use crate::item::{has_aggregate, items};
+use crate::item::items;
 use crate::order::{groups_of, order_part};
 use crate::place::places;
 use crate::rest::Rest;
@@ -21,7 +21,7 @@ pub fn select<'a>(alloc: Global, lexemes: Rest<'a>) -> Result<(Ast, Rest<'a>), S
     let (_, rest) = keyword(Keyword::Select, lexemes)?;
     let (items, rest) = items(alloc, rest)?;
     let (_, rest) = keyword(Keyword::From, rest)?;
-    let (places, rest) = places(alloc, has_aggregate(&items), rest)?;
+    let (places, rest) = places(alloc, &items, rest)?;
     let (cond, rest) = where_part(alloc, rest)?;
     let (groups, rest) = groups_of(alloc, &places, rest)?;
     let ((order, limit), rest) = order_part(alloc, rest)?;
