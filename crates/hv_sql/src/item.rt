@@ -7,7 +7,7 @@ ghost use Rattle.hv_sql.specs.Code.{Gives};
 
 use crate::reference::reference;
 use crate::rest::Rest;
-use crate::rule::{Rule, list_of_up_to};
+use crate::rule::{Rule, short_list_of};
 use crate::stop::Stop;
 use crate::terminal::{keyword, next_symbol, next_word, symbol};
 use hv_model::{ItemAst, ItemAsts, Keyword, RefAst, Symbol};
@@ -101,7 +101,7 @@ pub fn items<'a>(alloc: Global, lexemes: Rest<'a>) -> Result<(ItemAsts, Rest<'a>
     if next_symbol(Symbol::Star, &lexemes) {
         star(alloc, lexemes)
     } else {
-        list_of_up_to(alloc, 127, lexemes)
+        short_list_of(alloc, lexemes)
     }
 }
 

@@ -5,7 +5,7 @@ ghost use Rattle.hv_sql.specs.Code.{Gives};
 
 use crate::reference::reference;
 use crate::rest::Rest;
-use crate::rule::{Rule, list_of_up_to};
+use crate::rule::{Rule, short_list_of};
 use crate::stop::Stop;
 use crate::terminal::{MOST_NUMBER, NUMBER, given, keyword, next_is, next_word, number_up_to};
 use hv_model::{KeyAst, KeyAsts, KeyBy, Keyword, PlaceAsts, RefAst, RefAsts};
@@ -30,7 +30,7 @@ fn group_part<'a>(alloc: Global, lexemes: Rest<'a>) -> Result<(RefAsts, Rest<'a>
     if next_word(Keyword::Group, &lexemes) {
         let (_, rest) = keyword(Keyword::Group, lexemes)?;
         let (_, rest) = keyword(Keyword::By, rest)?;
-        let (groups, rest) = list_of_up_to(alloc, 127, rest)?;
+        let (groups, rest) = short_list_of(alloc, rest)?;
         Ok((groups, rest))
     } else {
         Ok((Listed::new(alloc), lexemes))
@@ -119,7 +119,7 @@ pub fn order_part<'a>(
     if next_word(Keyword::Order, &lexemes) {
         let (_, rest) = keyword(Keyword::Order, lexemes)?;
         let (_, rest) = keyword(Keyword::By, rest)?;
-        let (keys, rest) = list_of_up_to(alloc, 127, rest)?;
+        let (keys, rest) = short_list_of(alloc, rest)?;
         let (limit, rest) = limit_part(rest)?;
         Ok(((keys, limit), rest))
     } else {

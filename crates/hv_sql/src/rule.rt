@@ -13,6 +13,9 @@ use hv_model::Symbol;
 use hv_row::Listed;
 use std::alloc::Global;
 
+/// The most items, group columns or order keys of a select behind the first.
+const MAX_BEHIND: usize = 127;
+
 /// A tree that lists have.
 pub trait Rule: Drop {
     ghost use Rattle.hv_model.specs.Reading.{Reader};
@@ -61,14 +64,13 @@ pub fn list_of<'a, T: Rule>(
     more(alloc, first, room, rest)
 }
 
-/// `R { , R }`, of at most so many and one.
-pub fn list_of_up_to<'a, T: Rule>(
+/// `R { , R }`, of at most 128.
+pub fn short_list_of<'a, T: Rule>(
     alloc: Global,
-    room: usize,
     lexemes: Rest<'a>,
 ) -> Result<(Listed<T>, Rest<'a>), Stop<'a>>
-    ensures { Gives result (list_of_up_to_at room (spec.symbol_kind Comma) (symbol_at Comma) T.reader lexemes.entry) }
+    ensures { Gives result (list_of_up_to_at 127 (spec.symbol_kind Comma) (symbol_at Comma) T.reader lexemes.entry) }
 {
     let (first, rest) = T::read(alloc, lexemes)?;
-    more(alloc, first, room, rest)
+    more(alloc, first, MAX_BEHIND, rest)
 }
