@@ -7,7 +7,7 @@ use crate::reference::reference;
 use crate::rest::Rest;
 use crate::stop::Stop;
 use crate::terminal::{
-    MOST_NUMBER, NAME, NUMBER, cmp, next_is, next_symbol, number_up_to, symbol, text,
+    MAX_NUMBER, NAME, NUMBER, cmp, next_is, next_symbol, number_up_to, symbol, text,
 };
 use hv_model::{CondAst, OperandAst, Symbol};
 use hv_row::Value;
@@ -44,7 +44,7 @@ fn operand<'a>(alloc: Global, lexemes: Rest<'a>) -> Result<(OperandAst, Rest<'a>
         let (column, rest) = reference(alloc, lexemes)?;
         Ok((OperandAst::Col(column), rest))
     } else if next_is(NUMBER, &lexemes) {
-        let (number, rest) = number_up_to(MOST_NUMBER, lexemes)?;
+        let (number, rest) = number_up_to(MAX_NUMBER, lexemes)?;
         Ok((OperandAst::Lit(Value::Int(number.0 as i64)), rest))
     } else if next_symbol(Symbol::Minus, &lexemes) {
         negative(lexemes)

@@ -7,7 +7,7 @@ use crate::reference::reference;
 use crate::rest::Rest;
 use crate::rule::{Rule, short_list_of};
 use crate::stop::Stop;
-use crate::terminal::{MOST_NUMBER, NUMBER, given, keyword, next_is, next_word, number_up_to};
+use crate::terminal::{MAX_NUMBER, NUMBER, given, keyword, next_is, next_word, number_up_to};
 use hv_model::{KeyAst, KeyAsts, KeyBy, Keyword, PlaceAsts, RefAst, RefAsts};
 use hv_row::Listed;
 use std::alloc::Global;
@@ -58,7 +58,7 @@ fn key_by<'a>(alloc: Global, lexemes: Rest<'a>) -> Result<((KeyBy, u32), Rest<'a
     ensures { Gives result (key_by_at lexemes.entry) }
 {
     if next_is(NUMBER, &lexemes) {
-        let (number, rest) = number_up_to(MOST_NUMBER, lexemes)?;
+        let (number, rest) = number_up_to(MAX_NUMBER, lexemes)?;
         Ok(((KeyBy::Number(number.0), number.1), rest))
     } else {
         let (column, rest) = reference(alloc, lexemes)?;
@@ -101,7 +101,7 @@ fn limit_part<'a>(lexemes: Rest<'a>) -> Result<(Option<u64>, Rest<'a>), Stop<'a>
 {
     if next_word(Keyword::Limit, &lexemes) {
         let (_, rest) = keyword(Keyword::Limit, lexemes)?;
-        let (number, rest) = number_up_to(MOST_NUMBER, rest)?;
+        let (number, rest) = number_up_to(MAX_NUMBER, rest)?;
         Ok((Some(number.0), rest))
     } else {
         Ok((None, lexemes))

@@ -6,7 +6,7 @@ ghost use Rattle.hv_sql.specs.Code.{Gives};
 use crate::rest::Rest;
 use crate::rule::{Rule, list_of};
 use crate::stop::Stop;
-use crate::terminal::{MOST_NUMBER, keyword, name, number_up_to, symbol};
+use crate::terminal::{MAX_NUMBER, keyword, name, number_up_to, symbol};
 use hv_model::{Ast, Keyword, Symbol};
 use std::alloc::Global;
 
@@ -33,7 +33,7 @@ pub fn import<'a>(alloc: Global, lexemes: Rest<'a>) -> Result<(Ast, Rest<'a>), S
     let (_, rest) = keyword(Keyword::Into, rest)?;
     let (table, rest) = name(alloc, rest)?;
     let (_, rest) = keyword(Keyword::Lines, rest)?;
-    let (number, rest) = number_up_to(MOST_NUMBER, rest)?;
+    let (number, rest) = number_up_to(MAX_NUMBER, rest)?;
     let lines = number.0;
     Ok((Ast::Import { table, lines }, rest))
 }
@@ -45,7 +45,7 @@ pub fn purge<'a>(alloc: Global, lexemes: Rest<'a>) -> Result<(Ast, Rest<'a>), St
 {
     let (_, rest) = keyword(Keyword::Purge, lexemes)?;
     let (_, rest) = keyword(Keyword::Chunk, rest)?;
-    let (number, rest) = number_up_to(MOST_NUMBER, rest)?;
+    let (number, rest) = number_up_to(MAX_NUMBER, rest)?;
     let (_, rest) = keyword(Keyword::Of, rest)?;
     let (table, rest) = name(alloc, rest)?;
     let chunk = number.0;
@@ -60,7 +60,7 @@ impl Rule for u64 {
     /// The number of a part.
     #[tactic(auto, unfolding(hv_model::specs::SqlReading::part_at))]
     fn read<'a>(_alloc: Global, lexemes: Rest<'a>) -> Result<(u64, Rest<'a>), Stop<'a>> {
-        let (number, rest) = number_up_to(MOST_NUMBER, lexemes)?;
+        let (number, rest) = number_up_to(MAX_NUMBER, lexemes)?;
         Ok((number.0, rest))
     }
 }

@@ -19,7 +19,7 @@ pub const NAME: u8 = 0;
 pub const NUMBER: u8 = 1;
 
 /// The greatest number of 64 bits with a sign.
-pub const MOST_NUMBER: u64 = 9223372036854775807;
+pub const MAX_NUMBER: u64 = 9223372036854775807;
 
 /// The number of a symbol's kind.
 pub fn symbol_kind(symbol: Symbol) -> u8
