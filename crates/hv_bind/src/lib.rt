@@ -12,4 +12,4 @@ mod place;
 mod scope;
 
 pub use binding::{BindFault, bind};
-pub use place::places;
+pub use place::{MAX_PLACES, places};

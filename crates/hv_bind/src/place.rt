@@ -7,7 +7,7 @@ use hv_model::{PlaceAst, Refusal, SelectAst, Word};
 use hv_row::Bytes;
 
 /// The most FROM places of a select.
-const MAX_PLACES: usize = 4;
+pub const MAX_PLACES: usize = 4;
 
 /// The alias of a place; without one it is the table's name.
 pub fn alias_of(place: &PlaceAst) -> &Word

@@ -7,14 +7,11 @@ ghost use Rattle.hv_bind.specs.Cause.{Explains};
 ghost use Rattle.oodb.specs.Stored.{database_of, IsSound};
 
 use crate::store::Store;
-use hv_bind::{BindFault, bind, places};
+use hv_bind::{BindFault, MAX_PLACES, bind, places};
 use hv_dev::PageFile;
 use hv_model::{BoundQuery, PlaceAst, SelectAst, TableHead};
 use hv_row::Copied;
 use std::alloc::{AllocError, Global};
-
-// The most FROM places of a select.
-const MAX_PLACES: usize = 4;
 
 /// The query that a select means over the store's tables, or its first refusal but for what its rows decide.
 pub fn bind_select<F: PageFile>(
