@@ -36,13 +36,10 @@ use Rattle.hv_row.specs.declared.schema.Column.{Column}
 use Rattle.hv_model.specs.Scope.{all_columns}
 use Rattle.hv_model.specs.Fits.{kind_of, is_column, operand_kind, same_kind, is_int, fits_step, cond_fits, item_fits, is_grouped_item, is_plain_item, FitsSchemas}
 use Rattle.hv_model.specs.Bound.{first_of, unless, schemas_of, ref_of, operand_of, cond_step, cond_of, items_of, all_items, is_item, item_number, key_item, key_of, is_aggregate, is_any, is_grouped, bound_query, ref_refusal, item_refusal, operand_refusal, test_refusal, refusal_step, cond_refusal, key_refusal, names_refusal, is_among, plain_refusal, grouping_refusal, if_none, order_refusal, bind_refusal}
+use Rattle.hv_bind.proofs.Refusing.{none_first}
 use Rattle.hv_bind.proofs.Standing.{ref_stands, columns_stand}
 
 -- ---- points of which none stands
-
-none_first : (a b : Option Refusal) → option_or a b ≡ None → (a ≡ None) × (b ≡ None)
-none_first None b e = (refl, e)
-none_first (Some r) b e = absurd cc
 
 passed : (b : Bool) (r : Refusal) → unless b r ≡ None → b ≡ true
 passed true r e = refl

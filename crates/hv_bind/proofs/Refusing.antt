@@ -17,11 +17,13 @@ use Rattle.hv_bind.specs.declared.binding.BindFault.TheVariants.{Refused, Memory
 use Rattle.hv_bind.specs.Cause.{Explains}
 use Rattle.hv_bind.specs.Keys.{keys_refusal}
 
--- ---- FROM places
+-- ---- points of which none stands
 
-rest_of : (point rest : Option Refusal) → option_or point rest ≡ None → rest ≡ None
-rest_of None rest none = none
-rest_of (Some r) rest none = absurd cc
+pub none_first : (a b : Option Refusal) → option_or a b ≡ None → (a ≡ None) × (b ≡ None)
+none_first None b e = (refl, e)
+none_first (Some r) b e = absurd cc
+
+-- ---- FROM places
 
 -- the fifth place is refused
 refused : (before : List PlaceAst) (at : ℕ) (absent : Option ℕ) (p : PlaceAst) (rest : Option Refusal) → 4 ≤ at → option_or (place_refusal before at absent p) rest ≡ None → ⊥
@@ -34,7 +36,7 @@ few_behind : (before : List PlaceAst) (at : ℕ) (absent : Option ℕ) (ps : Lis
 few_behind before at absent [] in_range none = omega arith
 few_behind before at absent (p ∷ ps) in_range none =
     elim (cases_lt at 4) [
-      | inl lt ↦ omega (arith, few_behind (before ++ p ∷ []) (at + 1) absent ps (omega arith) (rest_of (place_refusal before at absent p) (refusal_behind (before ++ p ∷ []) (at + 1) absent ps) none))
+      | inl lt ↦ omega (arith, few_behind (before ++ p ∷ []) (at + 1) absent ps (omega arith) (none_first (place_refusal before at absent p) (refusal_behind (before ++ p ∷ []) (at + 1) absent ps) none).1)
       | inr le ↦ absurd (refused before at absent p (refusal_behind (before ++ p ∷ []) (at + 1) absent ps) le none)
     ]
 
