@@ -4,7 +4,7 @@ use Rattle.std.specs.Prelude.{nat_lt}
 use Rattle.std.specs.List.{slice_range}
 use Rattle.std.proofs.lemmas.Bool.{cond-true, cond-false}
 use Rattle.std.proofs.lemmas.Bool.Decides.{nat_tests}
-use Rattle.std.proofs.lemmas.List.{take-append-le, take-append-drop, map-append}
+use Rattle.std.proofs.lemmas.List.{drop-append-le, take-append-le, take-append-drop, map-append}
 use Rattle.std.proofs.Math.Seq.{take-append_seam}
 use Rattle.std.proofs.lemmas.List.{append_cancel_right}
 use Rattle.hv_model.specs.declared.lexeme.Token.{Token}
@@ -51,15 +51,10 @@ place_is : (text : List ℕ) (tokens : List Token) (end : ℕ) → place_of (lex
 place_is text [] end = refl
 place_is text (t ∷ tokens) end = refl
 
-drop_left : (a : ℕ) (u m : List ℕ) → a ≤ length u → drop a (u ++ m) ≡ drop a u ++ m
-drop_left zero u m le = refl
-drop_left (suc a) [] m le = absurd (omega arith)
-drop_left (suc a) (b ∷ u) m le = drop_left a u m (omega arith)
-
 slice_left : (u m : List ℕ) (a b : ℕ) → a < b → b ≤ length u → slice_range (u ++ m) a b ≡ slice_range u a b
 slice_left u m a b lt le =
     let long = length-drop a u in
-    ap (λ (x : List ℕ). take (b - a) x) (drop_left a u m (omega arith)) ∙ take-append-le (b - a) (drop a u) m (omega (arith, long))
+    ap (λ (x : List ℕ). take (b - a) x) (drop-append-le a u m (omega arith)) ∙ take-append-le (b - a) (drop a u) m (omega (arith, long))
 
 -- tokens within the first bytes are the same lexemes before other bytes
 same_lexemes : (u v m : List ℕ) (end : ℕ) (ts : List Token) → end ≤ length u → EndsBy end ts → lexemes_of (u ++ m) ts ≡ lexemes_of (u ++ v) ts
