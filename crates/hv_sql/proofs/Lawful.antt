@@ -36,6 +36,9 @@ fault_is us vs e = ap (rest_or us) e
 pub ok_no_err : {A : Type 0} (x : A × List Lexeme) (at : List Lexeme) → ◌≡◌ {A = Read A} (Ok x) (Err at) → ⊥
 ok_no_err x at e = cc
 
+pub nil_no_cons : (t : Lexeme) (us : List Lexeme) → [] ≡ t ∷ us → ⊥
+nil_no_cons t us e = cc
+
 -- ---- the laws
 
 -- a reader took a front, which is an A before whatever follows; it sees one lexeme behind it and no more
@@ -178,11 +181,8 @@ one_fails {A} {good} test w holds real [] at e = record {
   more = w ∷ [];
   real = real;
   whole = one_some test w holds;
-  same = λ t us after f. absurd (nothing t us (fault_is {A = A} [] at e ∙ f));
+  same = λ t us after f. absurd (nil_no_cons t us (fault_is {A = A} [] at e ∙ f));
 }
-  where
-    nothing : (t : Lexeme) (us : List Lexeme) → [] ≡ t ∷ us → ⊥
-    nothing t us f = cc
 one_fails {A} {good} test w holds real (s ∷ ss) at e =
     let both = read_none (test s) (s ∷ ss) ss at e in
     record {

@@ -17,7 +17,7 @@ use Rattle.hv_model.specs.Fault.{IsStatement, IsFault, IsFaultBy}
 use Rattle.hv_sql.specs.Laws.{OneTree, TreesSound, TreesComplete, FaultsSound, FaultsComplete, OneFault, NoFaultToo}
 use Rattle.hv_model.specs.Reading.{ended, to_end}
 use Rattle.hv_model.specs.SqlReading.{tree_at}
-use Rattle.hv_sql.proofs.Lawful.{Took, Failed, placed, whats-placed, no_whats, rest_is, ok_no_err}
+use Rattle.hv_sql.proofs.Lawful.{Took, Failed, placed, whats-placed, no_whats, rest_is, ok_no_err, nil_no_cons}
 use Rattle.hv_sql.proofs.RuleLaws.{statement_lawful}
 
 -- a statement is read to its end
@@ -35,9 +35,6 @@ err_is us vs e = cc
 
 pub not_both : (a : Ast) (us : List Lexeme) → ◌≡◌ {A = Result Ast (List Lexeme)} (Ok a) (Err us) → ⊥
 not_both a us e = cc
-
-nil_no_cons : (t : Lexeme) (us : List Lexeme) → [] ≡ t ∷ us → ⊥
-nil_no_cons t us e = cc
 
 pub one_tree : OneTree
 one_tree lexemes a b s t = ok_is a b (sym (trees_complete lexemes a s) ∙ trees_complete lexemes b t)
