@@ -5,9 +5,8 @@ ghost use Rattle.hv_model.specs.Fits.{FitsSchemas};
 ghost use Rattle.hv_model.specs.Bound.{schemas_of, is_grouped, bind_refusal, bound_query};
 ghost use Rattle.hv_bind.specs.Cause.{Explains};
 
-use crate::grouping::is_grouped;
 use crate::scope::Scope;
-use hv_model::{BoundQuery, Places, Refusal, SelectAst, TableHead};
+use hv_model::{BoundQuery, Places, Refusal, SelectAst, TableHead, is_grouped};
 use hv_row::Listed;
 use std::alloc::{AllocError, Global};
 

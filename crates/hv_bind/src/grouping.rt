@@ -1,13 +1,13 @@
 // Plain columns of a grouped select.
 ghost use Rattle.std.specs.Prelude.{◌≡◌, map};
-ghost use Rattle.std.specs.List.{list_all, list_any};
+ghost use Rattle.std.specs.List.{list_all};
 ghost use Rattle.hv_model.specs.Scope.{all_columns};
 ghost use Rattle.hv_model.specs.Fits as fits;
 ghost use Rattle.hv_model.specs.Bound as spec;
 ghost use Rattle.hv_model.specs.Bound.{refusal_in, ref_of};
 
 use crate::scope::Scope;
-use hv_model::{ColRef, ItemAst, Refusal, SelectAst};
+use hv_model::{ColRef, ItemAst, Refusal, SelectAst, is_grouped};
 
 /// Whether two columns are the same.
 pub fn same_column(a: ColRef, b: ColRef) -> bool
@@ -28,27 +28,6 @@ fn are_among(groups: &[ColRef], columns: &[ColRef]) -> bool
     ensures { result ≡ list_all (spec.is_among groups.now) columns.now }
 {
     columns.iter().all(|column| is_among(groups, *column))
-}
-
-/// Whether an item is an aggregate.
-fn is_aggregate(item: &ItemAst) -> bool
-    ensures { result ≡ spec.is_aggregate item.now }
-{
-    !matches!(item, ItemAst::Star { .. } | ItemAst::Col(_))
-}
-
-/// Whether one of these is an aggregate.
-fn has_aggregate(items: &[ItemAst]) -> bool
-    ensures { result ≡ list_any spec.is_aggregate items.now }
-{
-    items.iter().any(|item| is_aggregate(item))
-}
-
-/// Whether a select is grouped: it has GROUP BY or an aggregate.
-pub fn is_grouped(ast: &SelectAst) -> bool
-    ensures { result ≡ spec.is_grouped ast.now }
-{
-    !ast.groups.is_empty() || has_aggregate(ast.items.as_slice())
 }
 
 impl Scope<'_> {

@@ -28,6 +28,7 @@ use Rattle.hv_model.specs.declared.query.SortKey.{SortKey}
 use Rattle.hv_model.specs.declared.query.BoundQuery.{BoundQuery}
 use Rattle.hv_model.specs.declared.reply.Refusal.{Refusal}
 use Rattle.hv_model.specs.declared.reply.Refusal.TheVariants.{TypeMismatch, NotGrouped, NoOutput}
+use Rattle.hv_model.specs.Sql.{is_aggregate}
 use Rattle.hv_model.specs.Scope.{resolved, column_at, all_columns}
 use Rattle.hv_model.specs.Fits.{kind_of, operand_kind, same_kind, is_int, same_column}
 
@@ -107,12 +108,6 @@ key_item places heads items (by.Col r) = item_number items (ref_of places heads 
 -- an order key
 abbrev pub key_of : List PlaceAst → List TableHead → List Item → KeyAst → SortKey
 key_of places heads items k = record { item = unwrap_or (key_item places heads items k.by) 0; down = k.down }
-
--- whether an item is an aggregate
-abbrev pub is_aggregate : ItemAst → Bool
-is_aggregate (it.Star byte) = false
-is_aggregate (it.Col r) = false
-is_aggregate _ = true
 
 -- whether a list has a member
 abbrev pub is_any : {A : Type 0} → List A → Bool

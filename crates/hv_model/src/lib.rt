@@ -25,5 +25,5 @@ pub use token::{
 };
 pub use tree::{
     Ast, Cmp, CondAst, ItemAst, ItemAsts, KeyAst, KeyAsts, KeyBy, Numbers, OperandAst, PlaceAst,
-    PlaceAsts, RefAst, RefAsts, SelectAst, Word,
+    PlaceAsts, RefAst, RefAsts, SelectAst, Word, has_aggregate, is_grouped,
 };

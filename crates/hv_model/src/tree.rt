@@ -1,4 +1,9 @@
 // Trees of statements. A byte is the place of the first byte of what it belongs to, in its statement.
+ghost use Rattle.std.specs.Prelude.{◌≡◌};
+ghost use Rattle.std.specs.List.{list_any};
+ghost use Rattle.hv_model.specs.Sql.{is_aggregate};
+ghost use Rattle.hv_model.specs.Bound.{is_grouped};
+
 use hv_row::{Bytes, Columns, Listed, Value};
 use sqlite_items::{Boxed, Items};
 
@@ -120,4 +125,25 @@ pub enum CondAst {
     All(Items<CondAst>),
     Any(Items<CondAst>),
     Not(Boxed<CondAst>),
+}
+
+// Whether an item is an aggregate.
+fn is_aggregate(item: &ItemAst) -> bool
+    ensures { result ≡ is_aggregate item.now }
+{
+    !matches!(item, ItemAst::Star { .. } | ItemAst::Col(_))
+}
+
+/// Whether one of the items is an aggregate.
+pub fn has_aggregate(items: &[ItemAst]) -> bool
+    ensures { result ≡ list_any is_aggregate items.now }
+{
+    items.iter().any(|item| is_aggregate(item))
+}
+
+/// Whether a select is grouped: it has GROUP BY or an aggregate.
+pub fn is_grouped(select: &SelectAst) -> bool
+    ensures { result ≡ is_grouped select.now }
+{
+    !select.groups.is_empty() || has_aggregate(select.items.as_slice())
 }

@@ -8,26 +8,10 @@ use Rattle.hv_model.specs.declared.tree.Ast.TheVariants.{Select}
 use Rattle.hv_model.specs.declared.tree.SelectAst.{SelectAst}
 use Rattle.hv_model.specs.declared.tree.RefAst.{RefAst}
 use Rattle.hv_model.specs.declared.tree.PlaceAst.{PlaceAst}
-use Rattle.hv_model.specs.declared.tree.ItemAst.{ItemAst}
-use Rattle.hv_model.specs.declared.tree.ItemAst.TheVariants as item
 use Rattle.hv_model.specs.Bound as bound
 use Rattle.hv_model.specs.Sql.{is_aggregate, places, groups_of, create, import, purge, merge, session, barrier, select, statement}
 use Rattle.hv_sql.specs.Laws.{OnePlace}
 use Rattle.hv_sql.proofs.OneReading.{trees_sound}
-
--- an aggregate is one to the grammar and to what binds names
-same_aggregate : (x : ItemAst) → bound.is_aggregate x ≡ is_aggregate x
-same_aggregate (item.Star byte) = refl
-same_aggregate (item.Col r) = refl
-same_aggregate item.Count = refl
-same_aggregate (item.CountOf r) = refl
-same_aggregate (item.Sum r) = refl
-same_aggregate (item.Least r) = refl
-same_aggregate (item.Greatest r) = refl
-
-same_any : (xs : List ItemAst) → list_any bound.is_aggregate xs ≡ list_any is_aggregate xs
-same_any [] = refl
-same_any (x ∷ xs) = λ i. same_aggregate x i || same_any xs i
 
 -- with an aggregate there is one place
 aggregate_place : (lexemes rest : List Lexeme) (ps : List PlaceAst) → places true lexemes rest ps → length ps ≡ 1
@@ -62,9 +46,7 @@ of_select lexemes rest x s =
     let gs = ps.second.second in
     let read = gs.second.second.1 in
     subst (λ (y : SelectAst). bound.is_grouped y ≡ true → length y.places ≡ 1) (select_is x _ read)
-    (λ grouped.
-    either (list_any is_aggregate items.value) _ _ _ _ ps.value gs.value ps.first gs.first
-    (ap (λ (b : Bool). bound.is_any gs.value || b) (sym (same_any items.value)) ∙ grouped))
+    (either (list_any is_aggregate items.value) _ _ _ _ ps.value gs.value ps.first gs.first)
 
 no_create : (lexemes : List Lexeme) (x : SelectAst) → create lexemes [] (Select x) → ⊥
 unfolding create

@@ -1,7 +1,5 @@
 // The items of a select.
-ghost use Rattle.std.specs.Prelude.{◌≡◌, true};
-ghost use Rattle.std.specs.List.{list_any};
-ghost use Rattle.hv_model.specs.Sql.{is_aggregate};
+ghost use Rattle.std.specs.Prelude.{◌≡◌};
 ghost use Rattle.hv_model.specs.SqlReading.{counted_at, count_at, ref_in_at, item_at, star_at, items_at};
 ghost use Rattle.hv_sql.specs.Code.{Gives};
 
@@ -103,18 +101,4 @@ pub fn items<'a>(alloc: Global, lexemes: Rest<'a>) -> Result<(ItemAsts, Rest<'a>
     } else {
         short_list_of(alloc, lexemes)
     }
-}
-
-/// Whether an item is an aggregate.
-fn is_aggregate(item: &ItemAst) -> bool
-    ensures { result ≡ is_aggregate item.now }
-{
-    !matches!(item, ItemAst::Star { .. } | ItemAst::Col(_))
-}
-
-/// Whether one of the items is an aggregate.
-pub fn has_aggregate(items: &ItemAsts) -> bool
-    ensures { result ≡ list_any is_aggregate items.now }
-{
-    items.iter().any(is_aggregate)
 }

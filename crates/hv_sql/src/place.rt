@@ -5,12 +5,11 @@ ghost use Rattle.hv_model.specs.Sql.{is_aggregate};
 ghost use Rattle.hv_model.specs.SqlReading.{alias_at, place_at, places_at};
 ghost use Rattle.hv_sql.specs.Code.{Gives};
 
-use crate::item::has_aggregate;
 use crate::rest::Rest;
 use crate::rule::{Rule, list_of};
 use crate::stop::Stop;
 use crate::terminal::{NAME, keyword, name, next_is, next_word};
-use hv_model::{ItemAsts, Keyword, PlaceAst, PlaceAsts, Word};
+use hv_model::{ItemAsts, Keyword, PlaceAst, PlaceAsts, Word, has_aggregate};
 use hv_row::Listed;
 use std::alloc::Global;
 
@@ -65,7 +64,7 @@ pub fn places<'a>(
 ) -> Result<(PlaceAsts, Rest<'a>), Stop<'a>>
     ensures { Gives result (places_at (list_any is_aggregate items.now) lexemes.entry) }
 {
-    if has_aggregate(items) {
+    if has_aggregate(items.as_slice()) {
         only_place(alloc, lexemes)
     } else {
         list_of(alloc, lexemes)

@@ -10,12 +10,11 @@ mod selecting;
 
 use crate::asked::answer_text;
 use crate::database::{Database, copied, parsed};
-use crate::grouped::is_grouped;
 use crate::written::refusal_text;
 use comparing::{COMPARISON_CASES, CONDITION_CASES, TEXT_CASES};
 use grouping::{EMPTY_CASES, GROUP_CASES, SUM_CASES};
 use hv_bind::{BindFault, bind, places};
-use hv_model::{Ast, BoundQuery, PlaceAst, PlainTables, Refusal, SelectAst, TableHead};
+use hv_model::{Ast, BoundQuery, PlaceAst, PlainTables, Refusal, SelectAst, TableHead, is_grouped};
 use hv_row::{Copied, Listed};
 use hv_sql::SqlFault;
 use joining::{JOIN_CASES, SELF_JOIN_CASES};

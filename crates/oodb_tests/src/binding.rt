@@ -1,10 +1,9 @@
 // Selects with their bound queries or refusals, without a text of SQL. The expected values follow from the rules of names, and none is an
 // output of the crate's own.
 use crate::drafts::{heads_of, select};
-use crate::grouped::is_grouped;
 use crate::query_line::query_line;
 use hv_bind::{bind, places};
-use hv_model::{SelectAst, TableHead};
+use hv_model::{SelectAst, TableHead, is_grouped};
 use std::alloc::Global;
 use std::test::Fail;
 

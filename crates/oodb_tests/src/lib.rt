@@ -15,7 +15,6 @@ mod database;
 #[cfg(test)]
 mod drafts;
 #[cfg(test)]
-mod grouped;
 #[cfg(test)]
 mod plain;
 #[cfg(test)]
