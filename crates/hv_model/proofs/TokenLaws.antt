@@ -14,7 +14,8 @@ pub ascii_digits : (ds : List ℕ) → list_all is_digit ds ≡ true → IsAscii
 ascii_digits [] h = IsAscii-nil
 ascii_digits (c ∷ cs) h = IsAscii-cons c cs (grind (arith, nat_tests)) (ascii_digits cs (grind (arith, nat_tests)))
 
-number_digits : (ds : List ℕ) → is_number ds ≡ true → list_all is_digit ds ≡ true
+-- a number has digits alone
+pub number_digits : (ds : List ℕ) → is_number ds ≡ true → list_all is_digit ds ≡ true
 number_digits ds h = grind (arith, nat_tests)
 
 pub utf8_number : (ds : List ℕ) → is_number ds ≡ true → IsUtf8 ds

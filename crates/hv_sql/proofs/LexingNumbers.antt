@@ -9,6 +9,7 @@ use Rattle.std.proofs.lemmas.Bool.Decides.{nat_tests}
 use Rattle.std.proofs.lemmas.Str.{IsUtf8-from_is_utf8, is_utf8-from_IsUtf8}
 use Rattle.std.proofs.lemmas.Str.Parse.{IsDigitsTest, IsNumeralModel, numerals_by_value, parse_digits}
 use Rattle.hv_model.specs.Token.{is_digit, is_number}
+use Rattle.hv_model.proofs.TokenLaws.{number_digits}
 
 pub utf8_told : {A E : Type 0} (bytes : List ℕ) (P : A → Type 0) (Q : E → Type 0) (r : Result A E)
     → MatchResult r (λ s. P s × IsUtf8 bytes) (λ e. (IsUtf8 bytes → ⊥) × Q e) → is_ok r ≡ is_utf8 bytes
@@ -20,9 +21,6 @@ tells_digits = search (rules, nat_tests)
 
 digits : IsNumeralModel (λ ds. list_all is_digit ds ≡ true) (digits_value 10)
 digits = numerals_by_value _ tells_digits
-
-number_digits : (ds : List ℕ) → is_number ds ≡ true → list_all is_digit ds ≡ true
-number_digits ds h = grind (arith, nat_tests)
 
 number_some : (ds : List ℕ) → is_number ds ≡ true → 0 < length ds
 number_some ds h = grind (arith, nat_tests)
