@@ -189,9 +189,13 @@ star = do
   byte ← symbol s.Star
   gives (it.Star byte ∷ [])
 
+-- how many items, group columns or keys may stand behind the first
+abbrev pub most_behind : ℕ
+most_behind = 127
+
 -- * | item { , item }, of at most 128 items
 unfoldable pub items : Grammar (List ItemAst)
-items = star or list_of_up_to 127 (symbol s.Comma) item
+items = star or list_of_up_to most_behind (symbol s.Comma) item
 
 -- whether an item is an aggregate
 abbrev pub is_aggregate : ItemAst → Bool
@@ -283,7 +287,7 @@ where_part = (do keyword k.Where; x ← cond (term 64); gives x) or gives c.Alwa
 
 -- [ GROUP BY ref { , ref } ], of at most 128
 unfoldable pub group_part : Grammar (List RefAst)
-group_part = (do keyword k.Group; keyword k.By; xs ← list_of_up_to 127 (symbol s.Comma) ref; gives xs) or gives []
+group_part = (do keyword k.Group; keyword k.By; xs ← list_of_up_to most_behind (symbol s.Comma) ref; gives xs) or gives []
 
 -- GROUP BY may stand behind one place alone
 unfoldable pub groups_of : List PlaceAst → Grammar (List RefAst)
@@ -312,7 +316,7 @@ limit_part = optional (do keyword k.Limit; n ← number; gives n.0)
 -- [ ORDER BY key { , key } [ LIMIT number ] ], of at most 128 keys
 unfoldable pub order_part : Grammar (List KeyAst × Option ℕ)
 order_part =
-    (do keyword k.Order; keyword k.By; keys ← list_of_up_to 127 (symbol s.Comma) key; limit ← limit_part; gives (keys, limit))
+    (do keyword k.Order; keyword k.By; keys ← list_of_up_to most_behind (symbol s.Comma) key; limit ← limit_part; gives (keys, limit))
     or gives ([], None)
 
 -- SELECT ( * | item { , item } ) FROM place { , place } [ WHERE cond ] [ GROUP BY ref { , ref } ] [ ORDER BY key { , key } [ LIMIT number ] ]

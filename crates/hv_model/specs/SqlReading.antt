@@ -26,7 +26,7 @@ use Rattle.hv_model.specs.declared.tree.OperandAst.TheVariants as operand_ast
 use Rattle.hv_model.specs.declared.tree.CondAst.{CondAst}
 use Rattle.hv_model.specs.declared.tree.CondAst.TheVariants as c
 use Rattle.hv_model.specs.Terminals.{name_kind, number_kind, keyword_kind, symbol_kind, is_keyword, is_symbol, is_word, is_number, is_text, is_comparison}
-use Rattle.hv_model.specs.Sql.{most_number, is_aggregate, list_or_one}
+use Rattle.hv_model.specs.Sql.{most_number, most_behind, is_aggregate, list_or_one}
 use Rattle.hv_model.specs.Reading.{Reader, to_end, ◌>>=◌, ◌>>◌, gives_at, one_at, choose, optional_at, given_at, list_of_at, list_of_up_to_at}
 
 -- ---- terminals
@@ -198,7 +198,7 @@ star_at = do
 
 -- * | item { , item }, of at most 128 items
 unfoldable pub items_at : Reader (List ItemAst)
-items_at = on_symbol s.Star star_at (list_of_up_to_at 127 (symbol_kind s.Comma) (symbol_at s.Comma) item_at)
+items_at = on_symbol s.Star star_at (list_of_up_to_at most_behind (symbol_kind s.Comma) (symbol_at s.Comma) item_at)
 
 -- [ [ AS ] name ]
 unfoldable pub alias_at : Reader (Option Word)
@@ -283,7 +283,7 @@ where_part_at = on_keyword k.Where (do keyword_at k.Where; x ← cond_at (term_a
 
 -- [ GROUP BY ref { , ref } ], of at most 128
 unfoldable pub group_part_at : Reader (List RefAst)
-group_part_at = on_keyword k.Group (do keyword_at k.Group; keyword_at k.By; xs ← list_of_up_to_at 127 (symbol_kind s.Comma) (symbol_at s.Comma) ref_at; gives_at xs) (gives_at [])
+group_part_at = on_keyword k.Group (do keyword_at k.Group; keyword_at k.By; xs ← list_of_up_to_at most_behind (symbol_kind s.Comma) (symbol_at s.Comma) ref_at; gives_at xs) (gives_at [])
 
 -- GROUP BY may stand behind one place alone
 unfoldable pub groups_of_at : List PlaceAst → Reader (List RefAst)
@@ -313,7 +313,7 @@ limit_part_at = optional_at (keyword_kind k.Limit) (do keyword_at k.Limit; n ←
 unfoldable pub order_part_at : Reader (List KeyAst × Option ℕ)
 order_part_at =
     on_keyword k.Order
-    (do keyword_at k.Order; keyword_at k.By; keys ← list_of_up_to_at 127 (symbol_kind s.Comma) (symbol_at s.Comma) key_at; limit ← limit_part_at; gives_at (keys, limit))
+    (do keyword_at k.Order; keyword_at k.By; keys ← list_of_up_to_at most_behind (symbol_kind s.Comma) (symbol_at s.Comma) key_at; limit ← limit_part_at; gives_at (keys, limit))
     (gives_at ([], None))
 
 -- SELECT ( * | item { , item } ) FROM place { , place } [ WHERE cond ] [ GROUP BY ref { , ref } ] [ ORDER BY key { , key } [ LIMIT number ] ]

@@ -14,7 +14,7 @@ use Rattle.hv_model.specs.declared.tree.Word.{Word}
 use Rattle.hv_model.specs.declared.tree.Cmp.{Cmp}
 use Rattle.hv_model.specs.declared.tree.Cmp.TheVariants as c
 use Rattle.hv_model.specs.Terminals.{kind, kind_of, name_kind, number_kind, text_kind, keyword_kind, symbol_kind, of_kind, is_keyword, is_symbol, is_word, word_of, is_number, number_of, is_text, text_of, is_comparison, comparison_of, cmp_of}
-use Rattle.hv_model.specs.Sql.{keyword, symbol, name, most_number, number, number_up_to, text, cmp, ref, ref_behind, is_aggregate, list_or_one, column_type, column, create, import, purge, part, merge, session, barrier, counted, count, ref_in, item, star, items, alias, place, places, negative, operand, test, conj, cond, negated, nested, term, where_part, group_part, groups_of, key_by, direction, key, limit_part, order_part, select, statement}
+use Rattle.hv_model.specs.Sql.{keyword, symbol, name, most_number, most_behind, number, number_up_to, text, cmp, ref, ref_behind, is_aggregate, list_or_one, column_type, column, create, import, purge, part, merge, session, barrier, counted, count, ref_in, item, star, items, alias, place, places, negative, operand, test, conj, cond, negated, nested, term, where_part, group_part, groups_of, key_by, direction, key, limit_part, order_part, select, statement}
 use Rattle.hv_model.specs.SqlReading.{deeper_at, keyword_at, symbol_at, name_at, number_at, number_up_to_at, text_at, cmp_at, ref_at, ref_behind_at, column_type_at, column_at, create_at, import_at, purge_at, part_at, merge_at, session_at, barrier_at, counted_at, count_at, ref_in_at, item_at, star_at, items_at, alias_at, place_at, places_at, negative_at, operand_at, test_at, conj_at, cond_at, negated_at, nested_at, term_at, where_part_at, group_part_at, groups_of_at, key_by_at, direction_at, key_at, limit_part_at, order_part_at, select_at, statement_at}
 use Rattle.hv_sql.proofs.Lawful.{Lawful, LawfulBy, gives_lawful, one_lawful}
 use Rattle.hv_sql.proofs.KindSets.{member, joined}
@@ -235,7 +235,7 @@ star_lawful = seq (symbol_lawful s.Star) (λ byte. gives_lawful (it.Star byte �
 
 pub items_lawful : Lawful (symbol_kind s.Comma ∷ symbol_kind s.Dot ∷ []) (symbol_kind s.Star ∷ item_heads) false (nm ∷ []) items items_at
 unfolding items items_at
-items_lawful = either star_lawful (list_of_up_to_lawful comma item_lawful refl 127) refl
+items_lawful = either star_lawful (list_of_up_to_lawful comma item_lawful refl most_behind) refl
 
 pub alias_lawful : Lawful (keyword_kind k.As ∷ name_kind ∷ []) (keyword_kind k.As ∷ name_kind ∷ []) true [] alias alias_at
 unfolding alias alias_at
@@ -315,7 +315,7 @@ group_bars = keyword_kind k.Group ∷ symbol_kind s.Comma ∷ symbol_kind s.Dot 
 pub group_lawful : Lawful group_bars (keyword_kind k.Group ∷ []) true [] group_part group_part_at
 unfolding group_part group_part_at
 group_lawful =
-    either (seq_ (keyword_lawful k.Group) (seq_ (keyword_lawful k.By) (seq (list_of_up_to_lawful comma ref_lawful refl 127) (λ xs. gives_lawful xs) refl) refl) refl)
+    either (seq_ (keyword_lawful k.Group) (seq_ (keyword_lawful k.By) (seq (list_of_up_to_lawful comma ref_lawful refl most_behind) (λ xs. gives_lawful xs) refl) refl) refl)
     (gives_lawful []) refl
 
 pub groups_lawful : (ps : List PlaceAst) → Lawful group_bars (keyword_kind k.Group ∷ []) true [] (groups_of ps) (groups_of_at ps)
@@ -349,7 +349,7 @@ order_lawful =
     either
     (seq_ (keyword_lawful k.Order)
     (seq_ (keyword_lawful k.By)
-    (seq (list_of_up_to_lawful comma key_lawful refl 127) (λ keys.
+    (seq (list_of_up_to_lawful comma key_lawful refl most_behind) (λ keys.
     seq limit_lawful (λ limit. gives_lawful (keys, limit)) refl) refl) refl) refl)
     (gives_lawful ([], None)) refl
 

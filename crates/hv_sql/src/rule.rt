@@ -2,6 +2,7 @@
 ghost use Rattle.std.specs.Prelude.{◌≡◌, [], ◌∷◌};
 ghost use Rattle.hv_model.specs.Terminals as spec;
 ghost use Rattle.hv_model.specs.Reading.{more_up_to_at, list_of_at, list_of_up_to_at};
+ghost use Rattle.hv_model.specs.Sql.{most_behind};
 ghost use Rattle.hv_model.specs.SqlReading.{symbol_at};
 ghost use Rattle.hv_sql.specs.Code.{Gives, with_front};
 ghost use Rattle.hv_model.specs.declared.lexeme.Symbol.TheVariants.{Comma};
@@ -69,7 +70,7 @@ pub fn short_list_of<'a, T: Rule>(
     alloc: Global,
     lexemes: Rest<'a>,
 ) -> Result<(Listed<T>, Rest<'a>), Stop<'a>>
-    ensures { Gives result (list_of_up_to_at 127 (spec.symbol_kind Comma) (symbol_at Comma) T.reader lexemes.entry) }
+    ensures { Gives result (list_of_up_to_at most_behind (spec.symbol_kind Comma) (symbol_at Comma) T.reader lexemes.entry) }
 {
     let (first, rest) = T::read(alloc, lexemes)?;
     more(alloc, first, MAX_BEHIND, rest)
