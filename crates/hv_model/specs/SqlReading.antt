@@ -1,4 +1,6 @@
 -- The reader of each rule of the grammar: which tree it gives, and where it fails.
+-- Each rule of `Sql` stands here a second time, on purpose: there it says which lexemes are which tree and names no way to find it, here how the
+-- next lexeme decides. That both agree is a law of `hv_sql` (`grammar_laws`), so nobody has to trust this file.
 use Rattle.std.specs.Prelude.{ℕ, zero, suc, ◌^◌, Bool, true, false, List, [], ◌∷◌, Option, Some, None, Result, pos, neg_ℤ}
 use Rattle.std.specs.List.{list_any}
 use Rattle.hv_row.specs.declared.value.Value.TheVariants.{Int, Text}
