@@ -1,9 +1,10 @@
 -- What holds of the replies so far holds of one more, where the statement's answer keeps its contract.
-use Rattle.std.proofs.Common.{◌≡◌, ◌⊎◌, ℕ, zero, suc, ◌+◌, ◌-◌, ◌<◌, ◌≤◌, ◌≢◌, List, [], ◌∷◌, ◌++◌, length, Some, Ok, inl, inr, refl, ap, sym, ◌∙◌, subst, arith, count_by, Bool, true, false, cond, eq-eqb, eqb-true, le_refl, add-one, length-append}
-use Rattle.std.specs.Prelude.{find, ◌==◌, ◌&&◌}
+use Rattle.std.proofs.Common.{◌≡◌, ◌⊎◌, ℕ, zero, suc, ◌+◌, ◌-◌, ◌<◌, ◌≤◌, ◌≢◌, List, [], ◌∷◌, ◌++◌, length, Some, Ok, inl, inr, refl, ap, sym, ◌∙◌, subst, arith, count_by, true, false, cond, eq-eqb, le_refl, add-one}
+use Rattle.std.specs.Prelude.{find, ◌==◌}
 use Rattle.std.specs.List.{slice_get}
 use Rattle.std.proofs.lemmas.Option.{slice_get_within}
-use Rattle.std.proofs.lemmas.List.{append-nil, take-append-le}
+use Rattle.std.proofs.lemmas.Bool.{and_right, ne_eqb}
+use Rattle.std.proofs.lemmas.List.{append-nil, length_push, take-append-le}
 use Rattle.std.proofs.Math.Seq.{take-length}
 use Rattle.std.proofs.lemmas.List.Sums.{fold-append}
 use Rattle.hv_row.specs.Schema.{same_name}
@@ -34,15 +35,6 @@ same_name-refl (b ∷ bs) = rw (eq-eqb b b refl) (same_name-refl bs)
 pub named : (e : Entry) (x : Statement) → Names e x → is_named e x ≡ true
 named e x n = rw (n.session, n.number) (rw (same_name-refl x.session) (eq-eqb x.number x.number refl))
 
--- a test of which the second part fails
-and_false : (a b : Bool) → b ≡ false → a && b ≡ false
-and_false true b e = e
-and_false false b e = refl
-
--- numbers that differ
-eqb-differ : (m n : ℕ) → m ≢ n → (m == n) ≡ false
-eqb-differ m n differ = elim (m == n) as (λ b. (m == n) ≡ b → (m == n) ≡ false) [ true ↦ (λ e. absurd (differ (eqb-true m n e))) | false ↦ (λ e. e) ] refl
-
 -- the search by number finds the statement
 find_numbered : (xs : List Statement) (from : ℕ) → ((k : ℕ) (x : Statement) → slice_get xs k ≡ Some x → x.number ≡ k + from)
     → (e : Entry) (k : ℕ) (x : Statement) → slice_get xs k ≡ Some x → Names e x → find (is_named e) xs ≡ Some x
@@ -55,7 +47,7 @@ find_numbered (y ∷ ys) from numbers e (suc k) x stands names =
     let first : y.number ≡ 0 + from = numbers 0 y refl in
     let its : x.number ≡ suc k + from = numbers (suc k) x stands in
     let differ : e.number ≢ y.number = (λ same. let n : e.number ≡ x.number = names.number in omega arith) in
-    let test : is_named e y ≡ false = and_false (same_name e.session y.session) (e.number == y.number) (eqb-differ e.number y.number differ) in
+    let test : is_named e y ≡ false = and_right (same_name e.session y.session) (e.number == y.number) (ne_eqb e.number y.number differ) in
     rw test (find_numbered ys (from + 1) (λ j z at. let n : z.number ≡ suc j + from = numbers (suc j) z at in omega arith) e k x stands names)
 
 -- a script of one phase has that phase's statements
@@ -120,9 +112,6 @@ follows n (Failed at cause) not_done le = le
 -- the count of Done replies with one more
 counted_more : (rs : List Reply) (r : Reply) → count_by is_done (rs ++ r ∷ []) ≡ count_by is_done rs + cond (is_done r) 1 0
 counted_more rs r = rw (fold-append (λ (a : ℕ) (x : Reply). a + cond (is_done x) 1 0) 0 rs (r ∷ [])) refl
-
-length-more : {X : Type 0} (xs : List X) (x : X) → length (xs ++ x ∷ []) ≡ length xs + 1
-length-more xs x = rw (length-append xs (x ∷ [])) refl
 
 -- one more reply along the session, with a number that follows each earlier one
 along_more : (rs : List Reply) (r : Reply) (most : ℕ)
@@ -204,7 +193,7 @@ commits_more : (s : Script) (xs : List Statement) (max : ℕ) (known : Type 0) �
 commits_more s xs max known one before new history longer rs x at what is_before legal stands commits =
     let e : Entry = commits.entry in
     let r : Reply = Done at what in
-    let longer_length : length longer ≡ length history + 1 = rw commits.is_longer (length-more history e) in
+    let longer_length : length longer ≡ length history + 1 = rw commits.is_longer (length_push history e) in
     let kept : (n : ℕ) → n ≤ length history → database_after s longer n ≡ database_after s history n =
     (λ n le. rw commits.is_longer (database_after-kept s history e n le)) in
     record {
@@ -286,7 +275,7 @@ stays_kept : (s : Script) (xs : List Statement) (max : ℕ) (known : Type 0) (be
 stays_kept s xs max known before new history longer rs x r kept stands not_done stays rows_ok refused_ok failed_ok =
     let below : length rs < length xs = slice_get_within xs (length rs) x stands in record {
       database = rw (stays.same_database, stays.same_history) kept.database;
-      short = rw (length-more rs r) (omega arith);
+      short = rw (length_push rs r) (omega arith);
       legal = rw stays.same_history (stays_more s xs max known history rs x r kept.legal stands not_done stays.at_is
           (λ n rows e. rw (at_present s xs max known before new history longer rs r kept stays n (ap (λ (q : Reply). number_of q) e)) (rows_ok n rows e))
           (λ n cause e. rw (at_present s xs max known before new history longer rs r kept stays n (ap (λ (q : Reply). number_of q) e)) (refused_ok n cause e))
@@ -300,7 +289,7 @@ pub kept_next : (s : Script) (xs : List Statement) (max : ℕ) (known : Type 0) 
 kept_next s xs max known before new history longer rs x (Done at what) one kept stands settles = record {
   database = sym (rw (settles.is_longer, database_after-more s history settles.entry, sym kept.database)
       (after_entry-steps s xs one before new settles.entry (length rs) x settles.command stands settles.names settles.is settles.steps));
-  short = rw (length-more rs (Done at what)) (let below : length rs < length xs = slice_get_within xs (length rs) x stands in omega arith);
+  short = rw (length_push rs (Done at what)) (let below : length rs < length xs = slice_get_within xs (length rs) x stands in omega arith);
   legal = commits_more s xs max known one before new history longer rs x at what kept.database kept.legal stands settles;
 }
 kept_next s xs max known before new history longer rs x (Rows at rows) one kept stands settles =
