@@ -38,7 +38,7 @@ import_lines_at = do
   name_at
   keyword_at k.Lines
   lines ← number_up_to_at largest_number
-  gives_at lines.0
+  gives_at lines.value
 
 -- a number that was read, else 0
 abbrev pub or_zero : Result ℕ (List Lexeme) → ℕ

@@ -10,6 +10,7 @@ use Rattle.hv_model.specs.declared.lexeme.Keyword.TheVariants as k
 use Rattle.hv_model.specs.declared.lexeme.Symbol.{Symbol}
 use Rattle.hv_model.specs.declared.lexeme.Symbol.TheVariants as s
 use Rattle.hv_model.specs.declared.tree.Word.{Word}
+use Rattle.hv_model.specs.declared.tree.Numeral.{Numeral}
 use Rattle.hv_model.specs.declared.tree.Ast.{Ast}
 use Rattle.hv_model.specs.declared.tree.Ast.TheVariants as ast
 use Rattle.hv_model.specs.declared.tree.RefAst.{RefAst}
@@ -42,7 +43,7 @@ abbrev pub name : Grammar Word
 name = one is_word
 
 -- a number of at most this value, and its byte
-abbrev pub number_up_to : ℕ → Grammar (ℕ × ℕ)
+abbrev pub number_up_to : ℕ → Grammar Numeral
 number_up_to most = one (is_number most)
 
 -- the greatest number of 64 bits with a sign
@@ -50,7 +51,7 @@ abbrev pub most_number : ℕ
 most_number = 9223372036854775807
 
 -- a number, and its byte
-abbrev pub number : Grammar (ℕ × ℕ)
+abbrev pub number : Grammar Numeral
 number = number_up_to most_number
 
 -- a text's bytes
@@ -95,7 +96,7 @@ import = do
   table ← name
   keyword k.Lines
   lines ← number
-  gives (ast.Import table lines.0)
+  gives (ast.Import table lines.value)
 
 -- PURGE CHUNK number OF name
 unfoldable pub purge : Grammar Ast
@@ -105,13 +106,13 @@ purge = do
   chunk ← number
   keyword k.Of
   table ← name
-  gives (ast.Purge chunk.0 table)
+  gives (ast.Purge chunk.value table)
 
 -- a number's value
 unfoldable pub part : Grammar ℕ
 part = do
   n ← number
-  gives n.0
+  gives n.value
 
 -- MERGE CHUNKS number , number { , number } OF name
 unfoldable pub merge : Grammar Ast
@@ -226,13 +227,13 @@ unfoldable pub negative : Grammar OperandAst
 negative = do
   symbol s.Minus
   n ← number_up_to (2 ^ 63)
-  gives (operand_ast.Lit (Int (neg_ℤ (pos n.0))))
+  gives (operand_ast.Lit (Int (neg_ℤ (pos n.value))))
 
 -- ref | [ - ] number | text
 unfoldable pub operand : Grammar OperandAst
 operand =
     (do r ← ref; gives (operand_ast.Col r))
-    or (do n ← number; gives (operand_ast.Lit (Int (pos n.0))))
+    or (do n ← number; gives (operand_ast.Lit (Int (pos n.value))))
     or negative
     or (do t ← text; gives (operand_ast.Lit (Text t)))
 
@@ -296,7 +297,7 @@ groups_of _ = gives []
 
 -- the byte of a reference is its key's
 unfoldable pub key_by : Grammar (KeyBy × ℕ)
-key_by = (do n ← number; gives (by.Number n.0, n.1)) or (do r ← ref; gives (by.Col r, r.byte))
+key_by = (do n ← number; gives (by.Number n.value, n.byte)) or (do r ← ref; gives (by.Col r, r.byte))
 
 -- [ ASC | DESC ], whether it is DESC
 unfoldable pub direction : Grammar Bool
@@ -311,7 +312,7 @@ key = do
 
 -- [ LIMIT number ]
 unfoldable pub limit_part : Grammar (Option ℕ)
-limit_part = optional (do keyword k.Limit; n ← number; gives n.0)
+limit_part = optional (do keyword k.Limit; n ← number; gives n.value)
 
 -- [ ORDER BY key { , key } [ LIMIT number ] ], of at most 128 keys
 unfoldable pub order_part : Grammar (List KeyAst × Option ℕ)

@@ -13,6 +13,7 @@ use Rattle.hv_model.specs.declared.lexeme.Keyword.TheVariants as k
 use Rattle.hv_model.specs.declared.lexeme.Symbol.{Symbol}
 use Rattle.hv_model.specs.declared.lexeme.Symbol.TheVariants as s
 use Rattle.hv_model.specs.declared.tree.Word.{Word}
+use Rattle.hv_model.specs.declared.tree.Numeral.{Numeral}
 use Rattle.hv_model.specs.declared.tree.Ast.{Ast}
 use Rattle.hv_model.specs.declared.tree.Ast.TheVariants as ast
 use Rattle.hv_model.specs.declared.tree.RefAst.{RefAst}
@@ -46,11 +47,11 @@ abbrev pub name_at : Reader Word
 name_at = one_at is_word
 
 -- a number of at most this value
-abbrev pub number_up_to_at : ℕ → Reader (ℕ × ℕ)
+abbrev pub number_up_to_at : ℕ → Reader Numeral
 number_up_to_at most = one_at (is_number most)
 
 -- a number
-abbrev pub number_at : Reader (ℕ × ℕ)
+abbrev pub number_at : Reader Numeral
 number_at = number_up_to_at most_number
 
 -- a text
@@ -103,7 +104,7 @@ import_at = do
   table ← name_at
   keyword_at k.Lines
   lines ← number_at
-  gives_at (ast.Import table lines.0)
+  gives_at (ast.Import table lines.value)
 
 -- PURGE CHUNK number OF name
 unfoldable pub purge_at : Reader Ast
@@ -113,13 +114,13 @@ purge_at = do
   chunk ← number_at
   keyword_at k.Of
   table ← name_at
-  gives_at (ast.Purge chunk.0 table)
+  gives_at (ast.Purge chunk.value table)
 
 -- a number's value
 unfoldable pub part_at : Reader ℕ
 part_at = do
   n ← number_at
-  gives_at n.0
+  gives_at n.value
 
 -- MERGE CHUNKS number , number { , number } OF name
 unfoldable pub merge_at : Reader Ast
@@ -225,13 +226,13 @@ unfoldable pub negative_at : Reader OperandAst
 negative_at = do
   symbol_at s.Minus
   n ← number_up_to_at (2 ^ 63)
-  gives_at (operand_ast.Lit (Int (neg_ℤ (pos n.0))))
+  gives_at (operand_ast.Lit (Int (neg_ℤ (pos n.value))))
 
 -- ref | [ - ] number | text
 unfoldable pub operand_at : Reader OperandAst
 operand_at =
     choose name_kind (do r ← ref_at; gives_at (operand_ast.Col r))
-    (choose number_kind (do n ← number_at; gives_at (operand_ast.Lit (Int (pos n.0))))
+    (choose number_kind (do n ← number_at; gives_at (operand_ast.Lit (Int (pos n.value))))
     (on_symbol s.Minus negative_at
     (do t ← text_at; gives_at (operand_ast.Lit (Text t)))))
 
@@ -294,7 +295,7 @@ groups_of_at _ = gives_at []
 
 -- the byte of a reference is its key's
 unfoldable pub key_by_at : Reader (KeyBy × ℕ)
-key_by_at = choose number_kind (do n ← number_at; gives_at (by.Number n.0, n.1)) (do r ← ref_at; gives_at (by.Col r, r.byte))
+key_by_at = choose number_kind (do n ← number_at; gives_at (by.Number n.value, n.byte)) (do r ← ref_at; gives_at (by.Col r, r.byte))
 
 -- [ ASC | DESC ], whether it is DESC
 unfoldable pub direction_at : Reader Bool
@@ -309,7 +310,7 @@ key_at = do
 
 -- [ LIMIT number ]
 unfoldable pub limit_part_at : Reader (Option ℕ)
-limit_part_at = optional_at (keyword_kind k.Limit) (do keyword_at k.Limit; n ← number_at; gives_at n.0)
+limit_part_at = optional_at (keyword_kind k.Limit) (do keyword_at k.Limit; n ← number_at; gives_at n.value)
 
 -- [ ORDER BY key { , key } [ LIMIT number ] ], of at most 128 keys
 unfoldable pub order_part_at : Reader (List KeyAst × Option ℕ)

@@ -11,6 +11,7 @@ use Rattle.hv_model.specs.declared.lexeme.Keyword.TheVariants as k
 use Rattle.hv_model.specs.declared.lexeme.Symbol.{Symbol}
 use Rattle.hv_model.specs.declared.lexeme.Symbol.TheVariants as s
 use Rattle.hv_model.specs.declared.tree.Word.{Word}
+use Rattle.hv_model.specs.declared.tree.Numeral.{Numeral}
 use Rattle.hv_model.specs.declared.tree.Cmp.{Cmp}
 use Rattle.hv_model.specs.declared.tree.Cmp.TheVariants as c
 
@@ -130,12 +131,12 @@ abbrev pub is_word : Lexeme → Option Word
 is_word t = word_of t.what t.byte
 
 -- a number's value and byte, if it is at most this
-abbrev pub number_of : ℕ → What → ℕ → Option (ℕ × ℕ)
-number_of most (what.Number value) byte = if nat_le value most then Some (value, byte) else None
+abbrev pub number_of : ℕ → What → ℕ → Option Numeral
+number_of most (what.Number value) byte = if nat_le value most then Some (record { value = value; byte = byte }) else None
 number_of most _ byte = None
 
 -- a number of at most this value
-abbrev pub is_number : ℕ → Lexeme → Option (ℕ × ℕ)
+abbrev pub is_number : ℕ → Lexeme → Option Numeral
 is_number most t = number_of most t.what t.byte
 
 -- a text's bytes

@@ -24,6 +24,6 @@ pub use token::{
     MAX_NAME_BYTES, begins_name, is_digit, is_name_byte, is_number, is_white, is_word,
 };
 pub use tree::{
-    Ast, Cmp, CondAst, ItemAst, ItemAsts, KeyAst, KeyAsts, KeyBy, Numbers, OperandAst, PlaceAst,
-    PlaceAsts, RefAst, RefAsts, SelectAst, Word, has_aggregate, is_grouped,
+    Ast, Cmp, CondAst, ItemAst, ItemAsts, KeyAst, KeyAsts, KeyBy, Numbers, Numeral, OperandAst,
+    PlaceAst, PlaceAsts, RefAst, RefAsts, SelectAst, Word, has_aggregate, is_grouped,
 };

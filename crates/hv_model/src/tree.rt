@@ -14,6 +14,13 @@ pub struct Word {
     pub byte: u32,
 }
 
+/// A number in a statement.
+#[derive(Debug, Clone, Copy, PartialEq, Eq)]
+pub struct Numeral {
+    pub value: u64,
+    pub byte: u32,
+}
+
 /// Numbers in order.
 pub type Numbers = Listed<u64>;
 

@@ -11,6 +11,7 @@ use Rattle.hv_model.specs.declared.lexeme.Keyword.TheVariants as k
 use Rattle.hv_model.specs.declared.lexeme.Symbol.{Symbol}
 use Rattle.hv_model.specs.declared.lexeme.Symbol.TheVariants as s
 use Rattle.hv_model.specs.declared.tree.Word.{Word}
+use Rattle.hv_model.specs.declared.tree.Numeral.{Numeral}
 use Rattle.hv_model.specs.declared.tree.Cmp.{Cmp}
 use Rattle.hv_model.specs.declared.tree.Cmp.TheVariants as c
 use Rattle.hv_model.specs.Terminals.{kind, kind_of, name_kind, number_kind, text_kind, keyword_kind, symbol_kind, of_kind, is_keyword, is_symbol, is_word, word_of, is_number, number_of, is_text, text_of, is_comparison, comparison_of, cmp_of}
@@ -74,14 +75,17 @@ word_kind _ byte a e = absurd cc
 pub name_lawful : Lawful [] (name_kind ∷ []) false (nm ∷ []) name name_at
 name_lawful = one_lawful (name_kind ∷ []) is_word nm (λ t a e. word_kind t.what t.byte a e) (λ byte. (record { name = 97 ∷ []; byte = byte }, refl)) refl
 
-num_kind : (most : ℕ) (w : What) (byte : ℕ) (a : ℕ × ℕ) → number_of most w byte ≡ Some a → member (kind_of w) (number_kind ∷ []) ≡ true
+num_kind : (most : ℕ) (w : What) (byte : ℕ) (a : Numeral) → number_of most w byte ≡ Some a → member (kind_of w) (number_kind ∷ []) ≡ true
 num_kind most (what.Number x) byte a e = refl
 num_kind most _ byte a e = absurd cc
 
 -- the number 0
+abbrev zero_at : ℕ → Numeral
+zero_at byte = record { value = 0; byte = byte }
+
 pub number_up_to_lawful : (most : ℕ) → nat_le 0 most ≡ true → Lawful [] (number_kind ∷ []) false (num ∷ []) (number_up_to most) (number_up_to_at most)
 number_up_to_lawful most e =
-    one_lawful (number_kind ∷ []) (is_number most) num (λ t a f. num_kind most t.what t.byte a f) (λ byte. ((0, byte), ap (λ z. if z then Some (0, byte) else None) e)) refl
+    one_lawful (number_kind ∷ []) (is_number most) num (λ t a f. num_kind most t.what t.byte a f) (λ byte. (zero_at byte, ap (λ z. if z then Some (zero_at byte) else None) e)) refl
 
 pub number_lawful : Lawful [] (number_kind ∷ []) false (num ∷ []) number number_at
 number_lawful = number_up_to_lawful most_number refl
@@ -161,7 +165,7 @@ import_lawful =
     (seq_ (keyword_lawful k.Into)
     (seq name_lawful (λ table.
     seq_ (keyword_lawful k.Lines)
-    (seq number_lawful (λ lines. gives_lawful (ast.Import table lines.0)) refl) refl) refl) refl) refl
+    (seq number_lawful (λ lines. gives_lawful (ast.Import table lines.value)) refl) refl) refl) refl) refl
 
 pub purge_lawful : Lawful [] (keyword_kind k.Purge ∷ []) false (kw k.Purge ∷ kw k.Chunk ∷ num ∷ kw k.Of ∷ nm ∷ []) purge purge_at
 unfolding purge purge_at
@@ -170,11 +174,11 @@ purge_lawful =
     (seq_ (keyword_lawful k.Chunk)
     (seq number_lawful (λ chunk.
     seq_ (keyword_lawful k.Of)
-    (seq name_lawful (λ table. gives_lawful (ast.Purge chunk.0 table)) refl) refl) refl) refl) refl
+    (seq name_lawful (λ table. gives_lawful (ast.Purge chunk.value table)) refl) refl) refl) refl) refl
 
 pub part_lawful : Lawful [] (number_kind ∷ []) false (num ∷ []) part part_at
 unfolding part part_at
-part_lawful = seq number_lawful (λ n. gives_lawful n.0) refl
+part_lawful = seq number_lawful (λ n. gives_lawful n.value) refl
 
 pub merge_lawful : Lawful [] (keyword_kind k.Merge ∷ []) false (kw k.Merge ∷ kw k.Chunks ∷ num ∷ sy s.Comma ∷ num ∷ kw k.Of ∷ nm ∷ []) merge merge_at
 unfolding merge merge_at
@@ -254,7 +258,7 @@ places_lawful false = list_of_lawful comma place_lawful refl
 
 pub negative_lawful : Lawful [] (symbol_kind s.Minus ∷ []) false (sy s.Minus ∷ num ∷ []) negative negative_at
 unfolding negative negative_at
-negative_lawful = seq_ (symbol_lawful s.Minus) (seq (number_up_to_lawful (2 ^ 63) refl) (λ n. gives_lawful (operand_ast.Lit (Int (neg_ℤ (pos n.0))))) refl) refl
+negative_lawful = seq_ (symbol_lawful s.Minus) (seq (number_up_to_lawful (2 ^ 63) refl) (λ n. gives_lawful (operand_ast.Lit (Int (neg_ℤ (pos n.value))))) refl) refl
 
 abbrev pub operand_heads : List ℕ
 operand_heads = name_kind ∷ number_kind ∷ symbol_kind s.Minus ∷ text_kind ∷ []
@@ -263,7 +267,7 @@ pub operand_lawful : Lawful (symbol_kind s.Dot ∷ []) operand_heads false (sy s
 unfolding operand operand_at
 operand_lawful =
     either (seq ref_lawful (λ r. gives_lawful (operand_ast.Col r)) refl)
-    (either (seq number_lawful (λ n. gives_lawful (operand_ast.Lit (Int (pos n.0)))) refl)
+    (either (seq number_lawful (λ n. gives_lawful (operand_ast.Lit (Int (pos n.value)))) refl)
     (either_one is_text (λ t. operand_ast.Lit (Text t)) negative_lawful
     (seq text_lawful (λ t. gives_lawful (operand_ast.Lit (Text t))) refl) refl) refl) refl
 
@@ -326,7 +330,7 @@ groups_lawful (p ∷ q ∷ ps) = fits (gives_lawful []) refl refl refl
 
 pub key_by_lawful : Lawful (symbol_kind s.Dot ∷ []) (number_kind ∷ name_kind ∷ []) false (nm ∷ []) key_by key_by_at
 unfolding key_by key_by_at
-key_by_lawful = either (seq number_lawful (λ n. gives_lawful (by.Number n.0, n.1)) refl) (seq ref_lawful (λ r. gives_lawful (by.Col r, r.byte)) refl) refl
+key_by_lawful = either (seq number_lawful (λ n. gives_lawful (by.Number n.value, n.byte)) refl) (seq ref_lawful (λ r. gives_lawful (by.Col r, r.byte)) refl) refl
 
 pub direction_lawful : Lawful (keyword_kind k.Asc ∷ keyword_kind k.Desc ∷ []) (keyword_kind k.Asc ∷ keyword_kind k.Desc ∷ []) true [] direction direction_at
 unfolding direction direction_at
@@ -338,7 +342,7 @@ key_lawful = seq key_by_lawful (λ b. seq direction_lawful (λ d. gives_lawful (
 
 pub limit_lawful : Lawful (keyword_kind k.Limit ∷ []) (keyword_kind k.Limit ∷ []) true [] limit_part limit_part_at
 unfolding limit_part limit_part_at
-limit_lawful = optional_lawful (seq_ (keyword_lawful k.Limit) (seq number_lawful (λ n. gives_lawful n.0) refl) refl)
+limit_lawful = optional_lawful (seq_ (keyword_lawful k.Limit) (seq number_lawful (λ n. gives_lawful n.value) refl) refl)
 
 abbrev pub order_bars : List ℕ
 order_bars = keyword_kind k.Order ∷ symbol_kind s.Comma ∷ symbol_kind s.Dot ∷ keyword_kind k.Asc ∷ keyword_kind k.Desc ∷ keyword_kind k.Limit ∷ []

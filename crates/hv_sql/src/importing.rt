@@ -7,7 +7,7 @@ ghost use Rattle.hv_sql.specs.Code.{Passes, Finds};
 use crate::rest::Seen;
 use crate::terminal::{keyword_kind, kind};
 use crate::unlexed::Unlexed;
-use hv_model::Keyword;
+use hv_model::{Keyword, Numeral};
 
 // What is left behind a keyword.
 fn keyword<'a>(which: Keyword, lexemes: Unlexed<'a>) -> Option<Unlexed<'a>>
@@ -33,12 +33,15 @@ fn name<'a>(lexemes: Unlexed<'a>) -> Option<Unlexed<'a>>
 }
 
 // A number and its byte, whatever its value.
-fn number<'a>(lexemes: Unlexed<'a>) -> Option<((u64, u32), Unlexed<'a>)>
+fn number<'a>(lexemes: Unlexed<'a>) -> Option<(Numeral, Unlexed<'a>)>
     ensures { Finds result (number_up_to_at largest_number lexemes.entry) }
 {
     match lexemes.first() {
         Some((next, rest)) => match next.what {
-            Seen::Number(value) => Some(((value, next.byte), rest)),
+            Seen::Number(value) => {
+                let byte = next.byte;
+                Some((Numeral { value, byte }, rest))
+            }
             _ => None,
         },
         None => None,
@@ -55,7 +58,7 @@ fn lines<'a>(lexemes: Unlexed<'a>) -> Option<(u64, Unlexed<'a>)>
     let rest = name(rest)?;
     let rest = keyword(Keyword::Lines, rest)?;
     let (number, rest) = number(rest)?;
-    Some((number.0, rest))
+    Some((number.value, rest))
 }
 
 /// How many lines of data a statement's text takes: as many as it says where it is exactly `IMPORT INTO name LINES number`, whatever the

@@ -32,7 +32,7 @@ fn negative<'a>(lexemes: Rest<'a>) -> Result<(OperandAst, Rest<'a>), Stop<'a>>
 {
     let (_, rest) = symbol(Symbol::Minus, lexemes)?;
     let (number, rest) = number_up_to(1 << 63, rest)?;
-    Ok((OperandAst::Lit(Value::Int(negated(number.0))), rest))
+    Ok((OperandAst::Lit(Value::Int(negated(number.value))), rest))
 }
 
 /// `ref | [ - ] number | text`.
@@ -45,7 +45,7 @@ fn operand<'a>(alloc: Global, lexemes: Rest<'a>) -> Result<(OperandAst, Rest<'a>
         Ok((OperandAst::Col(column), rest))
     } else if next_is(NUMBER, &lexemes) {
         let (number, rest) = number_up_to(MAX_NUMBER, lexemes)?;
-        Ok((OperandAst::Lit(Value::Int(number.0 as i64)), rest))
+        Ok((OperandAst::Lit(Value::Int(number.value as i64)), rest))
     } else if next_symbol(Symbol::Minus, &lexemes) {
         negative(lexemes)
     } else {

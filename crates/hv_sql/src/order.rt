@@ -59,7 +59,7 @@ fn key_by<'a>(alloc: Global, lexemes: Rest<'a>) -> Result<((KeyBy, u32), Rest<'a
 {
     if next_is(NUMBER, &lexemes) {
         let (number, rest) = number_up_to(MAX_NUMBER, lexemes)?;
-        Ok(((KeyBy::Number(number.0), number.1), rest))
+        Ok(((KeyBy::Number(number.value), number.byte), rest))
     } else {
         let (column, rest) = reference(alloc, lexemes)?;
         let byte = column.byte;
@@ -102,7 +102,7 @@ fn limit_part<'a>(lexemes: Rest<'a>) -> Result<(Option<u64>, Rest<'a>), Stop<'a>
     if next_word(Keyword::Limit, &lexemes) {
         let (_, rest) = keyword(Keyword::Limit, lexemes)?;
         let (number, rest) = number_up_to(MAX_NUMBER, rest)?;
-        Ok((Some(number.0), rest))
+        Ok((Some(number.value), rest))
     } else {
         Ok((None, lexemes))
     }

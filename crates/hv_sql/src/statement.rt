@@ -34,7 +34,7 @@ pub fn import<'a>(alloc: Global, lexemes: Rest<'a>) -> Result<(Ast, Rest<'a>), S
     let (table, rest) = name(alloc, rest)?;
     let (_, rest) = keyword(Keyword::Lines, rest)?;
     let (number, rest) = number_up_to(MAX_NUMBER, rest)?;
-    let lines = number.0;
+    let lines = number.value;
     Ok((Ast::Import { table, lines }, rest))
 }
 
@@ -48,7 +48,7 @@ pub fn purge<'a>(alloc: Global, lexemes: Rest<'a>) -> Result<(Ast, Rest<'a>), St
     let (number, rest) = number_up_to(MAX_NUMBER, rest)?;
     let (_, rest) = keyword(Keyword::Of, rest)?;
     let (table, rest) = name(alloc, rest)?;
-    let chunk = number.0;
+    let chunk = number.value;
     Ok((Ast::Purge { chunk, table }, rest))
 }
 
@@ -61,7 +61,7 @@ impl Rule for u64 {
     #[tactic(auto, unfolding(hv_model::specs::SqlReading::part_at))]
     fn read<'a>(_alloc: Global, lexemes: Rest<'a>) -> Result<(u64, Rest<'a>), Stop<'a>> {
         let (number, rest) = number_up_to(MAX_NUMBER, lexemes)?;
-        Ok((number.0, rest))
+        Ok((number.value, rest))
     }
 }
 

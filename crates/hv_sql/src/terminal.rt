@@ -9,7 +9,7 @@ ghost use Rattle.hv_sql.specs.Next.{what_seen};
 use crate::lexing::text_of;
 use crate::rest::{Rest, Seen};
 use crate::stop::Stop;
-use hv_model::{Cmp, Keyword, Symbol, Word};
+use hv_model::{Cmp, Keyword, Numeral, Symbol, Word};
 use hv_row::{Bytes, Listed};
 use std::alloc::Global;
 
@@ -178,15 +178,18 @@ pub fn name<'a>(alloc: Global, lexemes: Rest<'a>) -> Result<(Word, Rest<'a>), St
 }
 
 /// A number of at most this value, and its byte.
-pub fn number_up_to<'a>(most: u64, lexemes: Rest<'a>) -> Result<((u64, u32), Rest<'a>), Stop<'a>>
+pub fn number_up_to<'a>(most: u64, lexemes: Rest<'a>) -> Result<(Numeral, Rest<'a>), Stop<'a>>
     ensures gives { Gives result (number_up_to_at most lexemes.entry) }
-    ensures most { IfOk result (λ x. x.0.0 ≤ most) }
+    ensures most { IfOk result (λ x. x.0.value ≤ most) }
 {
     let Some((next, rest)) = lexemes.first() else {
         return Err(Stop::At(lexemes));
     };
     match next.what {
-        Seen::Number(value) if value <= most => Ok(((value, next.byte), rest)),
+        Seen::Number(value) if value <= most => {
+            let byte = next.byte;
+            Ok((Numeral { value, byte }, rest))
+        }
         _ => Err(Stop::At(lexemes)),
     }
 }
