@@ -1,5 +1,5 @@
 -- The tokens of a text stand in it.
-use Rattle.std.proofs.Common.{◌≤◌, ℕ, List, [], ◌∷◌, length, arith}
+use Rattle.std.proofs.Common.{ℕ, List, [], ◌∷◌, length, arith}
 use Rattle.hv_model.specs.declared.lexeme.Token.{Token}
 use Rattle.hv_model.specs.Lexemes.{tokens_of, InOrder, EachToken}
 use Rattle.hv_model.specs.Lexed.{AllStandIn}
