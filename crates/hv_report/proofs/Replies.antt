@@ -11,6 +11,7 @@ use Rattle.hv_model.specs.declared.catalogue.Detail.{Detail}
 use Rattle.hv_model.specs.declared.catalogue.Detail.TheVariants as detail
 use Rattle.hv_model.specs.declared.reply.Reply.{Reply}
 use Rattle.hv_model.specs.declared.reply.Reply.TheVariants as reply
+use Rattle.hv_model.specs.declared.reply.Refusal.{Refusal}
 use Rattle.hv_model.specs.declared.reply.Refusal.TheVariants as refused
 use Rattle.hv_model.specs.declared.reply.Failure.{Failure}
 use Rattle.hv_model.specs.declared.reply.Failure.TheVariants.{Read, Write, Damaged, Memory}
@@ -63,28 +64,25 @@ detail_told (detail.Import a chunk rows) (detail.Import b other more) x y good g
     ((cc), counts.1)
 detail_told a b x y good good' stops stops' e = absurd (differ (detail_text a ++ x) (detail_text b ++ y) refl e)
 
+-- a refusal at a byte, behind its word
+told_at : (word : List ℕ) (refusal : ℕ → Refusal) (a b : ℕ) (x y : List ℕ) → Is32 a → Is32 b → Stops is_digit x → Stops is_digit y
+    → word ++ (decimal a ++ x) ≡ word ++ (decimal b ++ y) → (refusal a ≡ refusal b) × (x ≡ y)
+told_at word refusal a b x y good good' stops stops' e =
+    let told = behind_word word a b x y good good' stops stops' e in (ap refusal told.0, told.1)
+
 -- why a statement is refused
 refusal_told : Decodes RefusalInRange refusal_text (Stops is_digit) (λ a b. a ≡ b)
 refusal_told refused.Unbuilt refused.Unbuilt x y good good' stops stops' e = (refl, append_cancel_left (codes "unbuilt") x y e)
 refusal_told refused.EmptyAggregate refused.EmptyAggregate x y good good' stops stops' e = (refl, append_cancel_left (codes "empty-aggregate") x y e)
-refusal_told (refused.Syntax a) (refused.Syntax b) x y good good' stops stops' e =
-    let told = behind_word (codes "syntax ") a b x y good good' stops stops' e in (ap refused.Syntax told.0, told.1)
-refusal_told (refused.NoTable a) (refused.NoTable b) x y good good' stops stops' e =
-    let told = behind_word (codes "no-table ") a b x y good good' stops stops' e in (ap refused.NoTable told.0, told.1)
-refusal_told (refused.TooManyPlaces a) (refused.TooManyPlaces b) x y good good' stops stops' e =
-    let told = behind_word (codes "too-many-places ") a b x y good good' stops stops' e in (ap refused.TooManyPlaces told.0, told.1)
-refusal_told (refused.DuplicateAlias a) (refused.DuplicateAlias b) x y good good' stops stops' e =
-    let told = behind_word (codes "duplicate-alias ") a b x y good good' stops stops' e in (ap refused.DuplicateAlias told.0, told.1)
-refusal_told (refused.NoColumn a) (refused.NoColumn b) x y good good' stops stops' e =
-    let told = behind_word (codes "no-column ") a b x y good good' stops stops' e in (ap refused.NoColumn told.0, told.1)
-refusal_told (refused.Ambiguous a) (refused.Ambiguous b) x y good good' stops stops' e =
-    let told = behind_word (codes "ambiguous ") a b x y good good' stops stops' e in (ap refused.Ambiguous told.0, told.1)
-refusal_told (refused.TypeMismatch a) (refused.TypeMismatch b) x y good good' stops stops' e =
-    let told = behind_word (codes "type-mismatch ") a b x y good good' stops stops' e in (ap refused.TypeMismatch told.0, told.1)
-refusal_told (refused.NotGrouped a) (refused.NotGrouped b) x y good good' stops stops' e =
-    let told = behind_word (codes "not-grouped ") a b x y good good' stops stops' e in (ap refused.NotGrouped told.0, told.1)
-refusal_told (refused.NoOutput a) (refused.NoOutput b) x y good good' stops stops' e =
-    let told = behind_word (codes "no-output ") a b x y good good' stops stops' e in (ap refused.NoOutput told.0, told.1)
+refusal_told (refused.Syntax a) (refused.Syntax b) x y good good' stops stops' e = told_at (codes "syntax ") refused.Syntax a b x y good good' stops stops' e
+refusal_told (refused.NoTable a) (refused.NoTable b) x y good good' stops stops' e = told_at (codes "no-table ") refused.NoTable a b x y good good' stops stops' e
+refusal_told (refused.TooManyPlaces a) (refused.TooManyPlaces b) x y good good' stops stops' e = told_at (codes "too-many-places ") refused.TooManyPlaces a b x y good good' stops stops' e
+refusal_told (refused.DuplicateAlias a) (refused.DuplicateAlias b) x y good good' stops stops' e = told_at (codes "duplicate-alias ") refused.DuplicateAlias a b x y good good' stops stops' e
+refusal_told (refused.NoColumn a) (refused.NoColumn b) x y good good' stops stops' e = told_at (codes "no-column ") refused.NoColumn a b x y good good' stops stops' e
+refusal_told (refused.Ambiguous a) (refused.Ambiguous b) x y good good' stops stops' e = told_at (codes "ambiguous ") refused.Ambiguous a b x y good good' stops stops' e
+refusal_told (refused.TypeMismatch a) (refused.TypeMismatch b) x y good good' stops stops' e = told_at (codes "type-mismatch ") refused.TypeMismatch a b x y good good' stops stops' e
+refusal_told (refused.NotGrouped a) (refused.NotGrouped b) x y good good' stops stops' e = told_at (codes "not-grouped ") refused.NotGrouped a b x y good good' stops stops' e
+refusal_told (refused.NoOutput a) (refused.NoOutput b) x y good good' stops stops' e = told_at (codes "no-output ") refused.NoOutput a b x y good good' stops stops' e
 refusal_told a b x y good good' stops stops' e = absurd (differ (refusal_text a ++ x) (refusal_text b ++ y) refl e)
 
 -- the same page did not serve
@@ -184,7 +182,7 @@ reply_starts k r wide =
     rw is (starts_append is_digit (decimal k) (body r []) (decimal_starts k wide))
 
 -- replies are one after another
-replies_many : IsMany reply_text replies_text
+pub replies_many : IsMany reply_text replies_text
 replies_many = record { none = λ k. refl; more = λ k r rs. refl }
 
 -- replies before what begins with no digit
