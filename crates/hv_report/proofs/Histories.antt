@@ -36,7 +36,7 @@ entry_told k a b x y good good' any any' e =
     (entry_equal a b sessions.0 numbers.0 whats.0, append_cancel_left (codes "\n") x y whats.1)
 
 -- entries are one after another
-entries_many : IsMany entry_text entries_text
+pub entries_many : IsMany entry_text entries_text
 entries_many = record { none = λ k. refl; more = λ k e es. refl }
 
 -- a history begins with its count

@@ -1,16 +1,18 @@
 -- The one at the index is the next part, and its numbers are in range.
-use Rattle.std.proofs.Common.{ap, ◌+◌}
-use Rattle.std.proofs.lemmas.List.Elements.{All-more}
-use Rattle.hv_model.specs.Report.{replies_text}
-use Rattle.hv_report.specs.Law.{ReplyInRange}
-use Rattle.hv_report.proofs.PrintedParts.{item_next, printed_next}
+use Rattle.std.proofs.Common.{arith}
+use Rattle.hv_report.proofs.PrintedParts.{none_printed, item_printed, items_printed, items_ranged}
+use Rattle.hv_report.proofs.Replies.{replies_many}
 use Rattle.hv_report.proofs.writing.print_replies.Goals as goal
+
+pub loop-i-init : goal.loop-i-init
+loop-i-init g c = none_printed _ _ _ _ _
 
 pub loop-i-preserved : goal.loop-i-preserved
 loop-i-preserved g c =
-    let next = item_next c.args.replies.now c.loop-i.i c.index-replies-i.result c.loop-i-test.true c.index-replies-i.is in
-    let here = rw c.index-replies-i.is at c.print_reply.ensures.in_range in
-    record {
-      printed = printed_next _ _ _ _ _ _ _ _ _ _ c.loop-i.invariant.printed (ap (replies_text (c.loop-i.i + 1)) next) c.print_reply.ensures.prints;
-      in_range = All-more ReplyInRange c.args.replies.now c.loop-i.i c.index-replies-i.result c.loop-i-test.true c.loop-i.invariant.in_range here;
-    }
+    item_printed _ _ _ _ _ c.index-replies-i.result _ _ _ _ _ _ replies_many c.loop-i-test.true c.index-replies-i.is c.loop-i.invariant c.print_reply.ensures.prints c.print_reply.ensures.in_range
+
+pub returns-clause-prints : goal.returns-clause-prints
+returns-clause-prints g c = items_printed _ _ _ _ _ _ _ _ _ replies_many (omega arith) c.loop-i.invariant
+
+pub returns-clause-in_range : goal.returns-clause-in_range
+returns-clause-in_range g c = items_ranged _ _ _ _ _ _ _ _ (omega arith) c.loop-i.invariant
