@@ -5,13 +5,11 @@ use Rattle.std.specs.Str.{IsValidUpTo}
 use Rattle.std.proofs.lemmas.List.{append-nil}
 use Rattle.std.proofs.lemmas.Bool.{cases_lt, eqb-true}
 use Rattle.hv_model.specs.Parsed.{lines_wanted}
-use Rattle.hv_model.specs.Script.{most_bytes, most_lines, most_statements, is_blank, begins_unblank, quoted_behind, line_list, ends_line, data_behind, TakesLines, Statements, ReadsTo, IsScript, IsFault}
+use Rattle.hv_model.specs.Script.{most_bytes, most_lines, most_statements, is_blank, begins_unblank, quoted_behind, line_list, ends_line, data_behind, TakesLines, Statements, ReadsTo}
 use Rattle.hv_model.specs.declared.script.Statement.{Statement}
-use Rattle.hv_model.specs.declared.script.Script.{Script}
-use Rattle.hv_model.specs.declared.script.FaultName.{FaultName}
 use Rattle.hv_model.specs.declared.script.FaultName.TheVariants.{TooLong, NotUtf8, Unended, LongImport, ShortImport, TooManyStatements}
 use Rattle.hv_script.specs.Next.{OpensText, ClosesText, WantsMany, LacksLines, HasNext}
-use Rattle.hv_script.specs.OneReading.{SomeReading}
+use Rattle.hv_script.specs.OneReading.{HasReading, SomeReading}
 use Rattle.hv_script.proofs.Front.{utf8_or_front}
 use Rattle.hv_script.proofs.LineCount.{open_line, lines_push, closed_lines}
 use Rattle.hv_script.proofs.Behind.{behind_length, next_shorter, takes_next, reads_to, unended, long_import, short_import, one_too_many}
@@ -206,14 +204,11 @@ ends : (most : ℕ) (bytes : List ℕ) (k : ℕ) → Ends most bytes k
 ends zero bytes k = ends_none bytes k (what_next bytes)
 ends (suc most) bytes k = ends_next most bytes k (λ after. ends most after (k + 1)) (what_next bytes)
 
-abbrev Reads : List ℕ → Type 0
-Reads bytes = ((s : Script) × IsScript bytes s) ⊎ ((name : FaultName) × (byte : ℕ) × IsFault bytes name byte)
-
 -- the place of what stands behind blanks
 place_at : (bytes rest blanks from : List ℕ) → length rest ≤ length bytes → rest ≡ blanks ++ from → (length bytes - length from) + length from ≡ length bytes
 place_at bytes rest blanks from shorter is = omega (arith, behind_length rest blanks from is)
 
-reads_of : (bytes : List ℕ) → length bytes ≤ most_bytes → IsUtf8 bytes → (e : Ends most_statements bytes 1) → ReadsTo bytes e.rest → Stops e.rest → Reads bytes
+reads_of : (bytes : List ℕ) → length bytes ≤ most_bytes → IsUtf8 bytes → (e : Ends most_statements bytes 1) → ReadsTo bytes e.rest → Stops e.rest → HasReading bytes
 reads_of bytes short utf8 e front (inl blank) = inl (
   record { sessions = codes "main" ∷ []; phases = e.statements ∷ [] },
   record {
@@ -235,7 +230,7 @@ reads_of bytes short utf8 e front (inr (inr (inl (from, w)))) =
 reads_of bytes short utf8 e front (inr (inr (inr (from, l)))) =
     inr (ShortImport, length bytes - length from, short_import bytes e.rest from _ front l (place_at bytes e.rest l.closes.blanks from e.shorter l.closes.is))
 
-reads_full : (bytes : List ℕ) → length bytes ≤ most_bytes → IsUtf8 bytes → (e : Ends most_statements bytes 1) → (Stops e.rest) ⊎ ((length e.statements ≡ most_statements) × Taken e.rest) → Reads bytes
+reads_full : (bytes : List ℕ) → length bytes ≤ most_bytes → IsUtf8 bytes → (e : Ends most_statements bytes 1) → (Stops e.rest) ⊎ ((length e.statements ≡ most_statements) × Taken e.rest) → HasReading bytes
 reads_full bytes short utf8 e (inl stops) = reads_of bytes short utf8 e (reads_to bytes e.rest e.statements short utf8 e.read e.count) stops
 reads_full bytes short utf8 e (inr (full, t)) =
     let c = t.next.closes in
@@ -246,11 +241,11 @@ reads_full bytes short utf8 e (inr (full, t)) =
           (place_at bytes e.rest c.blanks t.from e.shorter c.is),
     )
 
-reads_utf8 : (bytes : List ℕ) → length bytes ≤ most_bytes → (IsUtf8 bytes) ⊎ ((¬ (IsUtf8 bytes)) × ((n : ℕ) × IsValidUpTo bytes n)) → Reads bytes
+reads_utf8 : (bytes : List ℕ) → length bytes ≤ most_bytes → (IsUtf8 bytes) ⊎ ((¬ (IsUtf8 bytes)) × ((n : ℕ) × IsValidUpTo bytes n)) → HasReading bytes
 reads_utf8 bytes short (inl utf8) = let e = ends most_statements bytes 1 in reads_full bytes short utf8 e e.stops
 reads_utf8 bytes short (inr (none, (n, longest))) = inr (NotUtf8, n, record { short = short; none = none; longest = longest })
 
-reads_long : (bytes : List ℕ) → (most_bytes < length bytes) ⊎ (length bytes ≤ most_bytes) → Reads bytes
+reads_long : (bytes : List ℕ) → (most_bytes < length bytes) ⊎ (length bytes ≤ most_bytes) → HasReading bytes
 reads_long bytes (inl long) = inr (TooLong, most_bytes, (long, refl))
 reads_long bytes (inr short) = reads_utf8 bytes short (utf8_or_front bytes)
 

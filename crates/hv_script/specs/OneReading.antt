@@ -4,9 +4,13 @@ use Rattle.hv_model.specs.Script.{IsScript, IsFault}
 use Rattle.hv_model.specs.declared.script.Script.{Script}
 use Rattle.hv_model.specs.declared.script.FaultName.{FaultName}
 
--- bytes are a script or have a fault
+-- the bytes are a script or have a fault
+abbrev pub HasReading : List ℕ → Type 0
+HasReading bytes = ((s : Script) × IsScript bytes s) ⊎ ((name : FaultName) × (byte : ℕ) × IsFault bytes name byte)
+
+-- so are all
 abbrev pub SomeReading : Type 0
-SomeReading = (bytes : List ℕ) → ((s : Script) × IsScript bytes s) ⊎ ((name : FaultName) × (byte : ℕ) × IsFault bytes name byte)
+SomeReading = (bytes : List ℕ) → HasReading bytes
 
 -- bytes are at most one script
 abbrev pub OneScript : Type 0
