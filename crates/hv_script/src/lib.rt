@@ -13,7 +13,7 @@ mod words;
 
 pub use fault::{BytesFault, ReadScriptFault};
 pub use law::one_reading;
-pub use reading::{PIECE_BYTES, read_script};
+pub use reading::{READ_BYTES, read_script};
 pub use script::{MAX_SCRIPT_BYTES, MAX_STATEMENTS, read_statements};
 pub use statement::MAX_IMPORT_LINES;
 pub use words::{Options, read_words};

@@ -13,7 +13,7 @@ use hv_model::Script;
 use std::alloc::{AllocError, Global};
 
 /// The most bytes that are asked of the source at a time.
-pub const PIECE_BYTES: usize = 65_536;
+pub const READ_BYTES: usize = 65_536;
 
 /// The script that the source gives, read to the source's end; the first byte past the most that a script has ends it too.
 /// No statement is found before all is read, and what was read is let go before the script is answered.
@@ -35,10 +35,10 @@ fn read_all<S: Source>(alloc: Global, source: &mut S) -> Result<Vec<u8>, ReadScr
     ensures unread { IfErr result (λ fault. IfFound fault (λ _. ⊥)) }
     ensures counted { CountsFaults result (S.faults source.old) (S.faults source.new) }
 {
-    let mut piece = zeros(alloc, PIECE_BYTES)?;
+    let mut piece = zeros(alloc, READ_BYTES)?;
     let mut all = Vec::new(alloc);
     while all.len() <= MAX_SCRIPT_BYTES {
-        let room = PIECE_BYTES.min(MAX_SCRIPT_BYTES + 1 - all.len());
+        let room = READ_BYTES.min(MAX_SCRIPT_BYTES + 1 - all.len());
         if read_piece(source, &mut piece[..room], &mut all)? == 0 {
             return Ok(all);
         }

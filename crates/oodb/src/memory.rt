@@ -67,7 +67,7 @@ pub fn run_in_memory(
     ensures complete { IfOk result (λ done. IsOk (options false words.now) → ReportsItsScript script.items done.status) }
 {
     let mut source = WholeSource::new(script);
-    let mut out = MemSink::new(alloc, PIECE_BYTES, None);
+    let mut out = MemSink::new(alloc, TAKEN_BYTES, None);
     let mut device = CleanDevice::new();
     match run(alloc, words, &mut source, &mut out, &mut device) {
         Status::SinkFault | Status::Memory => Err(AllocError),
@@ -79,4 +79,4 @@ pub fn run_in_memory(
 }
 
 // How many bytes the sink takes in one call.
-const PIECE_BYTES: usize = 65536;
+const TAKEN_BYTES: usize = 65536;
