@@ -1,5 +1,6 @@
 -- Steps of a statement over a store, one after another: what the port has behind them, and what a failure stands on.
 use Rattle.std.proofs.Common.{◌≡◌, ℕ, ◌<◌, ◌≤◌, Bool, List, [], ◌++◌, length, Some, slice_get, Result, Ok, Err, IfErr, OnOk, inl, refl, sym, ap, subst, ◌∙◌, arith, length-append, append-nil}
+use Rattle.std.specs.Result.{IsErrAnd}
 use Rattle.hv_dev.specs.Reading.{Landing}
 use Rattle.hv_model.specs.declared.catalogue.Database.{Database}
 use Rattle.hv_model.specs.declared.reply.Why.{Why}
@@ -12,8 +13,8 @@ use Rattle.oodb.specs.Stored.{database_of, AreFiles}
 use Rattle.oodb.specs.Reads.{PortSeen, IsIdle, GoesOn, ReadsOn}
 use Rattle.oodb.specs.Damage.{Serves, StandsOnNew, RepliedBy, IsUnfailed}
 use Rattle.oodb.specs.Imported.{IsUnbuilt}
-use Rattle.oodb.specs.Answer.{AllWell, FailedOver}
-use Rattle.oodb.proofs.Landed.{reads_both, rose_earlier, none_since, both_since}
+use Rattle.oodb.specs.Answer.{AllWell, FailedOver, ReadsTables}
+use Rattle.oodb.proofs.Landed.{reads_both, rose_earlier, none_since, both_since, handed_on}
 
 -- ---- a port that goes on
 
@@ -110,6 +111,16 @@ memory_reads tells s before after well = ((λ is. cc), memory_over tells s befor
 pub reads_failed : {File : Type 0} (tells : Bool) (s : Store File) (a b c : PortSeen File) (cause : Failure) → GoesOn a b → GoesOn b c → AllWell s a b
     → (¬ (cause ≡ Write)) × FailedOver tells s b c cause → (¬ (cause ≡ Write)) × FailedOver tells s a c cause
 reads_failed tells s a b c cause first second well failed = (failed.0, failed_later tells s a b c cause first second well failed.0 failed.1)
+
+-- the same, where the failure is handed on
+pub failed_on : {File T : Type 0} (tells : Bool) (s : Store File) (a b c : PortSeen File) (r : Result T Failure) (cause : Failure) → IsErrAnd r (λ y. y ≡ cause) → GoesOn a b → GoesOn b c → AllWell s a b
+    → (¬ (cause ≡ Write)) × FailedOver tells s b c cause → ReadsTables tells s a c r
+failed_on tells s a b c r cause is first second well failed =
+    handed_on r cause (λ r. ReadsTables tells s a c r) is (reads_failed tells s a b c cause first second well failed)
+
+-- and want of memory behind steps that went well
+pub memory_on : {File T : Type 0} (tells : Bool) (s : Store File) (before after : PortSeen File) (r : Result T Failure) → IsErrAnd r (λ y. y ≡ Memory) → AllWell s before after → ReadsTables tells s before after r
+memory_on tells s before after r is well = handed_on r Memory (λ r. ReadsTables tells s before after r) is (memory_reads tells s before after well)
 
 -- ---- an import
 
