@@ -136,15 +136,18 @@ are_allowed s ps e =
       allowed = ap (places_refusal ps) (sym stand) ∙ e;
     }
 
--- the places that were tested are allowed
-pub places_allowed : (s : Database) (from ps : List PlaceAst) (absent : Option ℕ) (refused : Option Refusal) → from ≡ ps → absent ≡ first_absent s from → refused ≡ places_refusal ps absent → refused ≡ None
-    → places_refusal ps (first_absent s ps) ≡ None
-places_allowed s from ps absent refused same is tested none =
-    ap (λ qs. places_refusal ps (first_absent s qs)) (sym same) ∙ ap (places_refusal ps) (sym is) ∙ sym tested ∙ none
+-- a select's places are allowed, and these are their heads
+pub record HasHeads (x : SelectAst) (s : Database) (heads : List TableHead) : Type 0 where
+  pub allowed : places_refusal x.places (first_absent s x.places) ≡ None
+  pub are : heads ≡ heads_of s x.places
 
--- the heads that were made are theirs
-pub heads_are : (s : Database) (from ps : List PlaceAst) (made heads : List TableHead) → from ≡ ps → heads ≡ made → made ≡ heads_of s from → heads ≡ heads_of s ps
-heads_are s from ps made heads same is are = is ∙ are ∙ ap (heads_of s) same
+-- the places that were tested are allowed, and the heads that were made are theirs
+pub has_heads : (x : SelectAst) (s : Database) (from : List PlaceAst) (absent : Option ℕ) (refused : Option Refusal) (made heads : List TableHead) → from ≡ x.places → absent ≡ first_absent s from
+    → refused ≡ places_refusal x.places absent → refused ≡ None → heads ≡ made → made ≡ heads_of s from → HasHeads x s heads
+has_heads x s from absent refused made heads same is tested none made_is are = record {
+  allowed = ap (λ qs. places_refusal x.places (first_absent s qs)) (sym same) ∙ ap (places_refusal x.places) (sym is) ∙ sym tested ∙ none;
+  are = made_is ∙ are ∙ ap (heads_of s) same;
+}
 
 or_none : {X : Type 0} (o : Option X) → option_or o None ≡ o
 or_none None = refl

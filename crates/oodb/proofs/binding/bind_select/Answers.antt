@@ -2,26 +2,18 @@
 use Rattle.std.proofs.Common.{◌<◌, All, length, IfErr, sym, ap, subst, ◌∙◌}
 use Rattle.hv_bind.specs.Cause.{Explains}
 use Rattle.oodb.specs.Stored.{database_of}
-use Rattle.oodb.proofs.SelectBinding.{places_allowed, heads_are, are_allowed, refusal_is, select_is, select_within}
+use Rattle.oodb.proofs.SelectBinding.{has_heads, are_allowed, refusal_is, select_is, select_within}
 use Rattle.oodb.proofs.binding.bind_select.Goals as goal
 
 pub bind-requires-clause-heads : goal.bind-requires-clause-heads
 bind-requires-clause-heads g c =
-    let x = c.args.select.now in
-    let s = database_of c.args.store.now in
-    let from = c.as_slice-from.result.now in
-    let allowed = places_allowed s from x.places c.first_absent.result c.places.result c.as_slice-from.ensures c.first_absent.ensures c.places.ensures c.in_default.is in
-    let heads = heads_are s from x.places c.in_ok-heads.heads.items c.as_slice.result.now c.as_slice-from.ensures c.as_slice.ensures.value c.in_ok-heads.ensures.heads in
-    ap (λ hs. length hs) heads ∙ (are_allowed s x.places allowed).heads
+    let had = has_heads c.args.select.now (database_of c.args.store.now) _ _ _ _ _ c.as_slice-from.ensures c.first_absent.ensures c.places.ensures c.in_default.is c.as_slice.ensures.value c.in_ok-heads.ensures.heads in
+    ap (λ hs. length hs) had.are ∙ (are_allowed (database_of c.args.store.now) c.args.select.now.places had.allowed).heads
 
 pub returns-clause-bound : goal.returns-clause-bound
 returns-clause-bound g c =
-    let x = c.args.select.now in
-    let s = database_of c.args.store.now in
-    let from = c.as_slice-from.result.now in
-    let allowed = places_allowed s from x.places c.first_absent.result c.places.result c.as_slice-from.ensures c.first_absent.ensures c.places.ensures c.in_default.is in
-    let heads = heads_are s from x.places c.in_ok-heads.heads.items c.as_slice.result.now c.as_slice-from.ensures c.as_slice.ensures.value c.in_ok-heads.ensures.heads in
-    select_is x s c.as_slice.result.now c.bind.result allowed heads c.bind.ensures.allowed c.bind.ensures.bound
+    let had = has_heads c.args.select.now (database_of c.args.store.now) _ _ _ _ _ c.as_slice-from.ensures c.first_absent.ensures c.places.ensures c.in_default.is c.as_slice.ensures.value c.in_ok-heads.ensures.heads in
+    select_is c.args.select.now (database_of c.args.store.now) c.as_slice.result.now c.bind.result had.allowed had.are c.bind.ensures.allowed c.bind.ensures.bound
 
 pub returns-clause-within : goal.returns-clause-within
 returns-clause-within g c =
@@ -30,9 +22,5 @@ returns-clause-within g c =
 
 pub returns-clause-refused : goal.returns-clause-refused
 returns-clause-refused g c =
-    let x = c.args.select.now in
-    let s = database_of c.args.store.now in
-    let from = c.as_slice-from.result.now in
-    let allowed = places_allowed s from x.places c.first_absent.result c.places.result c.as_slice-from.ensures c.first_absent.ensures c.places.ensures c.in_default.is in
-    let heads = heads_are s from x.places c.in_ok-heads.heads.items c.as_slice.result.now c.as_slice-from.ensures c.as_slice.ensures.value c.in_ok-heads.ensures.heads in
-    subst (λ o. IfErr c.bind.result (λ fault. Explains o fault)) (sym (refusal_is x s c.as_slice.result.now allowed heads)) c.bind.ensures.refused
+    let had = has_heads c.args.select.now (database_of c.args.store.now) _ _ _ _ _ c.as_slice-from.ensures c.first_absent.ensures c.places.ensures c.in_default.is c.as_slice.ensures.value c.in_ok-heads.ensures.heads in
+    subst (λ o. IfErr c.bind.result (λ fault. Explains o fault)) (sym (refusal_is c.args.select.now (database_of c.args.store.now) c.as_slice.result.now had.allowed had.are)) c.bind.ensures.refused
