@@ -1,10 +1,10 @@
 -- The first script's outcome, statement by statement.
-use Rattle.std.proofs.Common.{◌≡◌, ℕ, zero, suc, ◌+◌, ◌≤◌, true, false, List, [], ◌∷◌, Option, Some, None, inr, refl, rules, sym, ◌∙◌, ap, subst, arith, codes, pos, map, lit<, if◌then◌else◌}
+use Rattle.std.proofs.Common.{◌≡◌, ℕ, zero, suc, ◌+◌, ◌≤◌, true, false, List, [], ◌∷◌, Option, Some, None, inr, refl, rules, sym, ◌∙◌, ap, subst, arith, codes, pos, map, if◌then◌else◌}
 use Rattle.std.specs.List.{All, slice_get}
 use Rattle.std.specs.List.Sorted.{IsPermutation}
 use Rattle.std.specs.Option.{option_or}
-use Rattle.std.specs.Str.{IsAscii, is_utf8}
-use Rattle.std.proofs.lemmas.Str.{IsUtf8-from_ascii, is_utf8-from_IsUtf8}
+use Rattle.std.specs.Str.{is_utf8}
+use Rattle.std.proofs.lemmas.Str.{is_utf8-from_IsUtf8}
 use Rattle.std.proofs.lemmas.List.{take_all}
 use Rattle.std.proofs.lemmas.List.Sorted.{IsPermutation-refl, All-permutation}
 use Rattle.hv_row.specs.declared.value.Value.{Value}
@@ -47,6 +47,7 @@ use Rattle.hv_model.proofs.Whole.{legal_whole}
 use Rattle.oodb.specs.Known.{Known, NoneForgedIn}
 use Rattle.oodb.specs.FirstScript as first
 use Rattle.oodb.proofs.FirstTrees.{create_parsed, import_parsed, selected, select_parsed}
+use Rattle.oodb.proofs.ImportLaws.{small_text}
 
 -- the statements have their session and numbers
 pub record HasPlace (k : ℕ) (x : Statement) : Type 0 where
@@ -73,12 +74,8 @@ filled = with_chunk 0 (record { name = codes "t"; schema = first.schema; chunks 
 create_command : command_at first.create empty_database ≡ Some (Create (codes "t") first.schema)
 create_command = ap (λ tree. command_of (some_tree tree) [] empty_database) create_parsed
 
-ascii : IsAscii (codes "a")
-ascii zero = lit< tt
-ascii (suc i) = lit< tt
-
 text : is_utf8 (codes "a") ≡ true
-text = is_utf8-from_IsUtf8 (codes "a") (IsUtf8-from_ascii (codes "a") ascii)
+text = is_utf8-from_IsUtf8 (codes "a") (small_text (codes "a") refl)
 
 import_command : command_at first.import created ≡ Some (Import (codes "t") (first.row ∷ []))
 import_command = ap (λ tree. command_of (some_tree tree) (codes "1,a\n") created) import_parsed ∙ rw text refl
@@ -191,7 +188,7 @@ after_two n = let kept = after_import (Unit {0}) 0 in
 
 -- the row fits the columns
 row_fits : RowFits first.schema first.row
-row_fits = (search rules, (record { short = omega arith; utf8 = IsUtf8-from_ascii (codes "a") ascii }, tt))
+row_fits = (search rules, (record { short = omega arith; utf8 = small_text (codes "a") refl }, tt))
 
 -- the chunk's pages are the one page
 page_packed : IsPacked (((row_bytes first.schema first.row) ∷ []) ∷ [])

@@ -1,16 +1,16 @@
 -- What an import's fields, rows and lines spell, byte by byte.
-use Rattle.std.proofs.Common.{◌≡◌, ℕ, zero, suc, ◌+◌, ◌<◌, ◌≤◌, ◌^◌, Bool, true, false, not, cond, ◌&&◌, eqb, ltb, leb, List, [], ◌∷◌, ◌++◌, length, drop, get_or, Option, Some, None, ℤ, pos, neg_ℤ, refl, sym, ◌∙◌, ap, subst, arith, rules, append_assoc, drop-cons, add-one, leb-true, ltb-true, eqb-true, le-leb, lt-ltb, lit<, is_some, MatchOption, Bor, Result, Ok, Err, SomeIff}
+use Rattle.std.proofs.Common.{◌≡◌, ℕ, zero, suc, ◌+◌, ◌<◌, ◌≤◌, ◌^◌, Bool, true, false, not, cond, eqb, ltb, leb, List, [], ◌∷◌, ◌++◌, length, drop, get_or, Option, Some, None, ℤ, pos, neg_ℤ, refl, sym, ◌∙◌, ap, subst, arith, append_assoc, leb-true, ltb-true, eqb-true, le-leb, lt-ltb, lit<, is_some, MatchOption, Bor, Result, Ok, Err, SomeIff}
 use Rattle.std.specs.Prelude.{◌↔◌, FitsSigned, IsTrue, IsUtf8}
-use Rattle.std.proofs.lemmas.Bool.{false_from_ne_true}
+use Rattle.std.proofs.lemmas.Bool.{and_parts, and_from, not-true, false_from_ne_true}
 use Rattle.std.specs.Int.{w64}
 use Rattle.std.specs.List.{list_all, onto_first}
 use Rattle.std.specs.Option.{option_map, unwrap_or}
 use Rattle.std.specs.Result.{result_ok}
-use Rattle.std.specs.Str.{IsAscii}
+use Rattle.std.specs.Str.{IsAscii, is_utf8}
 use Rattle.std.specs.Str.Parse.{IsNumeral, digits_value, without_leading_sign, signed_digits_value, starts_with_minus, ParsesSigned}
 use Rattle.std.proofs.lemmas.Str.{IsUtf8-from_ascii, IsUtf8-from_is_utf8, is_utf8-from_IsUtf8}
 use Rattle.std.proofs.lemmas.Str.Parse.{IsNumeralModel, numerals_by_value}
-use Rattle.std.proofs.lemmas.List.{drop_all}
+use Rattle.std.proofs.lemmas.List.{drop_all, drop_more}
 use Rattle.hv_row.specs.declared.value.Value.{Value}
 use Rattle.hv_row.specs.declared.value.Value.TheVariants.{Int, Text}
 use Rattle.hv_row.specs.declared.value.ColType.{ColType}
@@ -22,28 +22,15 @@ use Rattle.hv_model.specs.Token.{is_digit, is_number}
 use Rattle.hv_model.specs.Import.{amount_fits, is_integer, is_text, field_value, value_before, values_of, fields_of}
 use Rattle.hv_model.specs.Script.{line_list}
 
--- Tests that are both true.
-both : {a b : Bool} → a ≡ true → b ≡ true → (a && b) ≡ true
-both p q = rw p q
-
-first_of : (a b : Bool) → (a && b) ≡ true → a ≡ true
-first_of true b e = refl
-first_of false b e = e
-
-second_of : (a b : Bool) → (a && b) ≡ true → b ≡ true
-second_of true b e = e
-second_of false b e = absurd (cc)
-
-not_true : (b : Bool) → not b ≡ true → b ≡ false
-not_true true e = absurd (cc)
-not_true false e = refl
-
 -- Numbers: what `parse` reads is what is an integer.
 numerals : IsNumeralModel (λ ds. list_all is_digit ds ≡ true) (digits_value 10)
 numerals = numerals_by_value _ (record {
   empty = refl;
-  parts = λ c cs e. search (rules, leb-true, first_of, second_of);
-  more = λ c cs r e. search (rules, le-leb, both);
+  parts = λ c cs e.
+      let all = and_parts (is_digit c) (list_all is_digit cs) e in
+      let digit = and_parts (leb 48 c) (leb c 57) all.0 in
+      ((leb-true 48 c digit.0, leb-true c 57 digit.1), all.1);
+  more = λ c cs r e. and_from (is_digit c) (list_all is_digit cs) (and_from (leb 48 c) (leb c 57) (le-leb 48 c r.0) (le-leb c 57 r.1)) e;
 })
 
 amount_to : (minus : Bool) (n : ℕ) → amount_fits minus n ≡ true → FitsSigned w64 (cond minus (neg_ℤ (pos n)) (pos n))
@@ -59,44 +46,51 @@ amount_from false n f = lt-ltb n (2 ^ 63) f.sfits
 pub integer_reads : (field : List ℕ) → is_integer field ≡ true → IsNumeral 10 (without_leading_sign field) × FitsSigned w64 (signed_digits_value 10 field)
 integer_reads field e =
     let ds = without_leading_sign field in
-    let number : is_number ds ≡ true = first_of _ _ e in
-    ((leb-true 1 (length ds) (first_of _ _ number), numerals.to ds (second_of _ _ number)), amount_to (starts_with_minus field) (digits_value 10 ds) (second_of _ _ e))
+    let parts = and_parts (is_number ds) (amount_fits (starts_with_minus field) (digits_value 10 ds)) e in
+    let number = and_parts (leb 1 (length ds)) (list_all is_digit ds) parts.0 in
+    ((leb-true 1 (length ds) number.0, numerals.to ds number.1), amount_to (starts_with_minus field) (digits_value 10 ds) parts.1)
 
 pub read_is_integer : (field : List ℕ) → IsNumeral 10 (without_leading_sign field) → FitsSigned w64 (signed_digits_value 10 field) → is_integer field ≡ true
 read_is_integer field n f =
     let ds = without_leading_sign field in
-    both (both (le-leb 1 (length ds) n.0) (numerals.from ds n.1)) (amount_from (starts_with_minus field) (digits_value 10 ds) f)
+    and_from (is_number ds) (amount_fits (starts_with_minus field) (digits_value 10 ds))
+    (and_from (leb 1 (length ds)) (list_all is_digit ds) (le-leb 1 (length ds) n.0) (numerals.from ds n.1)) (amount_from (starts_with_minus field) (digits_value 10 ds) f)
 
 -- A number is a text: its bytes are below 128.
-abbrev small : ℕ → Bool
+abbrev pub small : ℕ → Bool
 small b = ltb b 128
 
 ascii : (bs : List ℕ) → list_all small bs ≡ true → IsAscii bs
 ascii [] e i = lit< tt
-ascii (b ∷ bs) e zero = ltb-true b 128 (first_of _ _ e)
-ascii (b ∷ bs) e (suc i) = ascii bs (second_of _ _ e) i
+ascii (b ∷ bs) e zero = ltb-true b 128 (and_parts (small b) (list_all small bs) e).0
+ascii (b ∷ bs) e (suc i) = ascii bs (and_parts (small b) (list_all small bs) e).1 i
 
-small_text : (bs : List ℕ) → list_all small bs ≡ true → IsUtf8 bs
+pub small_text : (bs : List ℕ) → list_all small bs ≡ true → IsUtf8 bs
 small_text bs e = IsUtf8-from_ascii bs (ascii bs e)
 
 small_digits : (ds : List ℕ) → list_all is_digit ds ≡ true → list_all small ds ≡ true
 small_digits [] e = refl
 small_digits (d ∷ ds) e =
-    both (lt-ltb d 128 (let h : d ≤ 57 = leb-true d 57 (second_of (leb 48 d) (leb d 57) (first_of _ _ e)) in omega arith)) (small_digits ds (second_of _ _ e))
+    let all = and_parts (is_digit d) (list_all is_digit ds) e in
+    let h : d ≤ 57 = leb-true d 57 (and_parts (leb 48 d) (leb d 57) all.0).1 in
+    and_from (small d) (list_all small ds) (lt-ltb d 128 (omega arith)) (small_digits ds all.1)
 
 small_signed : (field : List ℕ) → list_all is_digit (without_leading_sign field) ≡ true → list_all small field ≡ true
 small_signed [] e = refl
 small_signed (b ∷ bs) e =
     elim (eqb b 45) as (λ v. eqb b 45 ≡ v → list_all is_digit (cond v bs (drop (cond (eqb b 43) 1 0) (b ∷ bs))) ≡ true → list_all small (b ∷ bs) ≡ true) [
-      | true ↦ λ is h. both (lt-ltb b 128 (omega (arith, eqb-true b 45 is))) (small_digits bs h)
+      | true ↦ λ is h. and_from (small b) (list_all small bs) (lt-ltb b 128 (omega (arith, eqb-true b 45 is))) (small_digits bs h)
       | false ↦ λ _. elim (eqb b 43) as (λ v. eqb b 43 ≡ v → list_all is_digit (drop (cond v 1 0) (b ∷ bs)) ≡ true → list_all small (b ∷ bs) ≡ true) [
-        | true ↦ λ is h. both (lt-ltb b 128 (omega (arith, eqb-true b 43 is))) (small_digits bs h)
+        | true ↦ λ is h. and_from (small b) (list_all small bs) (lt-ltb b 128 (omega (arith, eqb-true b 43 is))) (small_digits bs h)
         | false ↦ λ _ h. small_digits (b ∷ bs) h
       ] refl
     ] refl e
 
 pub integer_text : (field : List ℕ) → is_integer field ≡ true → IsUtf8 field
-integer_text field e = small_text field (small_signed field (second_of _ _ (first_of _ _ e)))
+integer_text field e =
+    let ds = without_leading_sign field in
+    let number = and_parts (is_number ds) (amount_fits (starts_with_minus field) (digits_value 10 ds)) e in
+    small_text field (small_signed field (and_parts (leb 1 (length ds)) (list_all is_digit ds) number.0).1)
 
 pub parsed : {E : Type 0} (field : List ℕ) (r : Result ℤ E) → ParsesSigned w64 10 field r → SomeIff (result_ok r) (is_integer field ≡ true) (signed_digits_value 10 field)
 parsed field (Ok x) p = (read_is_integer field p.0.0 p.0.1, p.1)
@@ -104,10 +98,10 @@ parsed field (Err e) p = λ is. p (integer_reads field is)
 
 -- Cuts at a mark: no byte before it is the mark.
 head_other : (mark b : ℕ) (bs : List ℕ) → list_all (λ b. not (eqb b mark)) (b ∷ bs) ≡ true → eqb b mark ≡ false
-head_other mark b bs e = not_true (eqb b mark) (first_of (not (eqb b mark)) (list_all (λ b. not (eqb b mark)) bs) e)
+head_other mark b bs e = not-true (eqb b mark) (and_parts (not (eqb b mark)) (list_all (λ b. not (eqb b mark)) bs) e).0
 
 tail_other : (mark b : ℕ) (bs : List ℕ) → list_all (λ b. not (eqb b mark)) (b ∷ bs) ≡ true → list_all (λ b. not (eqb b mark)) bs ≡ true
-tail_other mark b bs e = second_of (not (eqb b mark)) (list_all (λ b. not (eqb b mark)) bs) e
+tail_other mark b bs e = (and_parts (not (eqb b mark)) (list_all (λ b. not (eqb b mark)) bs) e).1
 
 -- Fields: what stands before the first comma, then those of what is behind it.
 pub fields_cut : (front more : List ℕ) → list_all (λ b. not (eqb b 44)) front ≡ true → fields_of (front ++ 44 ∷ more) ≡ front ∷ fields_of more
@@ -144,12 +138,12 @@ value_pushed vs v (Some ws) = ap Some (sym (append_assoc vs (v ∷ []) ws))
 -- A text of a column, as the test of the bytes tells it.
 pub text_value : (field : List ℕ) → is_text field ≡ true → IsTextValue field
 text_value field e = record {
-  short = leb-true (length field) 255 (first_of _ _ e);
-  utf8 = IsUtf8-from_is_utf8 field (second_of _ _ e);
+  short = leb-true (length field) 255 (and_parts (leb (length field) 255) (is_utf8 field) e).0;
+  utf8 = IsUtf8-from_is_utf8 field (and_parts (leb (length field) 255) (is_utf8 field) e).1;
 }
 
 text_test : (field : List ℕ) → IsTextValue field → is_text field ≡ true
-text_test field t = both (le-leb (length field) 255 t.short) (is_utf8-from_IsUtf8 field t.utf8)
+text_test field t = and_from (leb (length field) 255) (is_utf8 field) (le-leb (length field) 255 t.short) (is_utf8-from_IsUtf8 field t.utf8)
 
 pub text_told : (field : List ℕ) (told : Bool) → IsTrue told ↔ IsTextValue field → is_text field ≡ told
 text_told field true iff = text_test field (iff.0 refl)
@@ -209,16 +203,14 @@ cut_lines (b ∷ bs) front None some other is = subst (λ f. list_all (λ b. not
 cut_lines bytes front (Some m) some other is = rw is (lines_cut front m.now other)
 
 -- Steps of the loop over the columns: a value more, a field that spells none, a field too few or too many.
-drop_here : {X : Type 0} (xs : List X) (i : ℕ) (x : X) → i < length xs → x ≡ get_or xs i x → drop i xs ≡ x ∷ drop (i + 1) xs
-drop_here xs i x within is = rw (add-one i) (drop-cons xs i x within ∙ ap (λ y. y ∷ drop (suc i) xs) (sym is))
-
 values_here : (columns : List Column) (i : ℕ) (c : Column) (vs : List Value) (rest : Option (Bor (List ℕ))) (text : Bor (List ℕ)) (front : List ℕ) (more : Option (Bor (List ℕ))) (whole : Option (List Value))
     → i < length columns → c ≡ get_or columns i c → rest ≡ Some text → list_all (λ b. not (eqb b 44)) front ≡ true → MatchOption more (text.now ≡ front) (λ m. text.now ≡ front ++ (44 ∷ m.now))
     → behind vs (values_of (drop i columns) (fields_left (option_map (λ r. r.now) rest))) ≡ whole
     → behind vs (value_before (field_value c.kind front) (values_of (drop (i + 1) columns) (fields_left (option_map (λ m. m.now) more)))) ≡ whole
 values_here columns i c vs rest text front more whole within at rest_is other cut known =
     let left : fields_left (option_map (λ r. r.now) rest) ≡ front ∷ fields_left (option_map (λ m. m.now) more) = rw rest_is (cut_fields text.now front more other cut) in
-    ap (λ cs. behind vs (values_of cs (front ∷ fields_left (option_map (λ m. m.now) more)))) (sym (drop_here columns i c within at))
+    let here : drop i columns ≡ c ∷ drop (i + 1) columns = drop_more columns i c within ∙ ap (λ d. d ∷ drop (i + 1) columns) (sym at) in
+    ap (λ cs. behind vs (values_of cs (front ∷ fields_left (option_map (λ m. m.now) more)))) (sym here)
     ∙ ap (λ fs. behind vs (values_of (drop i columns) fs)) (sym left) ∙ known
 
 pub values_next : (columns : List Column) (i : ℕ) (c : Column) (vs : List Value) (rest : Option (Bor (List ℕ))) (text : Bor (List ℕ)) (front : List ℕ) (more : Option (Bor (List ℕ))) (whole : Option (List Value)) (v : Value) (pushed : List Value)

@@ -18,7 +18,7 @@ use Rattle.hv_view.specs.Known.{ChunkIsKnown}
 use Rattle.hv_model.specs.declared.reply.Why.TheVariants.{Digest, Form}
 use Rattle.hv_model.specs.declared.reply.Failure.{Failure}
 use Rattle.hv_model.specs.declared.reply.Failure.TheVariants.{Read, Write, Damaged, Memory}
-use Rattle.hv_model.proofs.Places.{slice_get-more}
+use Rattle.hv_model.proofs.Places.{slice_get-more, slice_get-last}
 use Rattle.oodb.specs.Reads.{ReadsOn, Brought, BroughtBytes, AllSince}
 use Rattle.oodb.specs.Damage.{ServesChunk, AllServeChunk, IsDamage, ReadsChunk}
 use Rattle.oodb.specs.RowsRead.{IsAsWritten}
@@ -35,14 +35,10 @@ reads_both before between after a b = record {
   landed = b.landed ∙ ap (λ l. l ++ b.more) a.landed ∙ append_assoc before.landings a.more b.more;
 }
 
-last_is : {X : Type 0} (xs : List X) (x : X) → slice_get (xs ++ x ∷ []) (length xs) ≡ Some x
-last_is [] x = refl
-last_is (y ∷ xs) x = last_is xs x
-
 -- a read that landed behind all others
 pub brought_last : {File : Type 0} (before after : List (Landing File)) (read : Landing File) (file : File) → read.file ≡ file → after ≡ before ++ read ∷ [] → BroughtBytes before after file read.page read.bytes
 brought_last before after read file of more = record {
-  brought = record { place = length before; since = omega arith; read = read; stands = ap (λ l. slice_get l (length before)) more ∙ last_is before read; of_file = of; of_page = refl };
+  brought = record { place = length before; since = omega arith; read = read; stands = ap (λ l. slice_get l (length before)) more ∙ slice_get-last before read; of_file = of; of_page = refl };
   are = refl;
 }
 
@@ -208,7 +204,7 @@ other_digest {File} tells pages number chunk before after file page bytes seen r
     place = length before;
     since = omega arith;
     read = the_read file page bytes;
-    stands = ap (λ (l : List (Landing File)). slice_get l (length before)) more ∙ last_is before (the_read file page bytes);
+    stands = ap (λ (l : List (Landing File)). slice_get l (length before)) more ∙ slice_get-last before (the_read file page bytes);
     of_file = of;
     of_page = refl;
   };

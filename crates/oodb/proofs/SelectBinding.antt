@@ -5,6 +5,7 @@ use Rattle.std.specs.List.{All, position, prefix_len, slice_get, cons_option}
 use Rattle.std.specs.Option.{option_or, option_map, option_and_then}
 use Rattle.std.proofs.lemmas.Bool.{eqb-false}
 use Rattle.std.proofs.lemmas.List.{take_all, drop_all, append-nil, at_drop_more}
+use Rattle.std.proofs.lemmas.Option.{cond_some}
 use Rattle.std.proofs.lemmas.List.Elements.{All-nil, All-push, All-map}
 use Rattle.hv_row.specs.Schema.{same_name}
 use Rattle.hv_model.specs.declared.tree.PlaceAst.{PlaceAst}
@@ -18,6 +19,7 @@ use Rattle.hv_model.specs.Database.{table_number}
 use Rattle.hv_model.specs.Scope.{is_number, place_refusal, refusal_behind, places_refusal}
 use Rattle.hv_model.specs.Bound.{bind_refusal, bound_query}
 use Rattle.hv_model.specs.Selected.{head_of, head_named, heads_of, is_absent, first_absent, select_refusal, select_query}
+use Rattle.oodb.proofs.StoreChanges.{element}
 
 -- ---- places that nothing refuses
 
@@ -60,10 +62,6 @@ none_absent before at k (p ∷ ps) from below e =
 
 -- ---- the first of a list that passes
 
-some_test : (t : Bool) (n k : ℕ) → cond t (Some n) None ≡ Some k → (t ≡ true) × (n ≡ k)
-some_test true n k e = (refl, cc)
-some_test false n k e = absurd cc
-
 none_test : (t : Bool) (n : ℕ) → cond t (Some n) None ≡ None → t ≡ false
 none_test true n e = absurd cc
 none_test false n e = refl
@@ -71,7 +69,7 @@ none_test false n e = refl
 -- it stands below the length
 position_below : {X : Type 0} (p : X → Bool) (xs : List X) (k : ℕ) → position p xs ≡ Some k → k < length xs
 position_below p xs k e =
-    let test = some_test (nat_lt (prefix_len (λ x. not (p x)) xs) (length xs)) (prefix_len (λ x. not (p x)) xs) k e in
+    let test = cond_some (nat_lt (prefix_len (λ x. not (p x)) xs) (length xs)) (prefix_len (λ x. not (p x)) xs) k e in
     let below : prefix_len (λ x. not (p x)) xs < length xs = ltb-true (prefix_len (λ x. not (p x)) xs) (length xs) test.0 in
     let same : prefix_len (λ x. not (p x)) xs ≡ k = test.1 in
     omega arith
@@ -90,11 +88,6 @@ first_fails false n l e = (refl, omega arith)
 there : {X : Type 0} (o : Option X) → is_none o ≡ false → (x : X) × (o ≡ Some x)
 there None e = absurd cc
 there (Some x) e = (x, refl)
-
-element : {X : Type 0} (xs : List X) (i : ℕ) → i < length xs → (x : X) × (slice_get xs i ≡ Some x)
-element [] i lt = absurd (omega arith)
-element (x ∷ xs) zero lt = (x, refl)
-element (x ∷ xs) (suc i) lt = element xs i (omega arith)
 
 -- a table that stands has a head
 head_stands : (s : Database) (name : List ℕ) → is_none (table_number s name) ≡ false → (h : TableHead) × (head_named s name ≡ Some h)

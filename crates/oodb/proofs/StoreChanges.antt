@@ -3,7 +3,7 @@ use Rattle.std.proofs.Common.{◌≡◌, ℕ, zero, suc, ◌+◌, ◌-◌, ◌<�
 use Rattle.std.specs.List.{position, prefix_len, slice_get, slice_set, AllByRecursion}
 use Rattle.std.specs.Option.{option_map}
 use Rattle.std.proofs.Math.Seq.{map-set_same}
-use Rattle.std.proofs.lemmas.List.{map-set, map-append}
+use Rattle.std.proofs.lemmas.List.{length-map, map-set, map-append}
 use Rattle.std.proofs.lemmas.Option.{slice_get-map, slice_get-get_or}
 use Rattle.hv_row.specs.declared.value.Value.{Value}
 use Rattle.hv_model.specs.declared.catalogue.Table.{Table}
@@ -23,13 +23,9 @@ prefix_len-map : {X Y : Type 0} (f : X → Y) (p : Y → Bool) (xs : List X) →
 prefix_len-map f p [] = refl
 prefix_len-map f p (x ∷ xs) = ap (λ n. cond (p (f x)) (1 + n) 0) (prefix_len-map f p xs)
 
-length-map : {X Y : Type 0} (f : X → Y) (xs : List X) → length (map f xs) ≡ length xs
-length-map f [] = refl
-length-map f (x ∷ xs) = ap suc (length-map f xs)
-
 -- the first place of a mapped list that passes
 pub position-map : {X Y : Type 0} (f : X → Y) (p : Y → Bool) (xs : List X) → position p (map f xs) ≡ position (λ x. p (f x)) xs
-position-map f p xs = rw (prefix_len-map f (λ y. not (p y)) xs, length-map f xs) refl
+position-map f p xs = rw (prefix_len-map f (λ y. not (p y)) xs, length-map xs f) refl
 
 -- what holds of each element holds of the one that stands at a number
 pub all_stands : {X : Type 0} (P : X → Type 0) (xs : List X) (i : ℕ) (x : X) → AllByRecursion P xs → slice_get xs i ≡ Some x → P x
@@ -53,6 +49,12 @@ pub some_within : {X : Type 0} (P : X → Type 0) (xs : List X) (i : ℕ) → Is
 some_within P [] i some = absurd some
 some_within P (x ∷ xs) zero some = omega arith
 some_within P (x ∷ xs) (suc i) some = let h : i < length xs = some_within P xs i some in omega arith
+
+-- so there is at each number below the length
+pub element : {X : Type 0} (xs : List X) (i : ℕ) → i < length xs → (x : X) × (slice_get xs i ≡ Some x)
+element [] i lt = absurd (omega arith)
+element (x ∷ xs) zero lt = (x, refl)
+element (x ∷ xs) (suc i) lt = element xs i (omega arith)
 
 -- the element that was read stands there
 pub stands_at : {X : Type 0} (xs : List X) (i : ℕ) (x : X) → i < length xs → x ≡ get_or xs i x → slice_get xs i ≡ Some x

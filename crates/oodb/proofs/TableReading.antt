@@ -20,7 +20,7 @@ use Rattle.oodb.specs.Known.{DatabaseIsKnown}
 use Rattle.oodb.specs.Reads.{PortSeen, IsIdle, ReadsOn, GoesOn, AllSince}
 use Rattle.oodb.specs.Damage.{IsWhy, ServesChunk, AllServeChunk, IsDamage, ReadsChunk, WasWritten, Serves, IsFileOf, StandsOnNew}
 use Rattle.oodb.specs.Answer.{AllWell, FailedOver}
-use Rattle.oodb.proofs.StoreChanges.{all_stands, stands_at, table_stands}
+use Rattle.oodb.proofs.StoreChanges.{all_stands, element, stands_at, table_stands}
 use Rattle.oodb.proofs.Landed.{WrittenPage, written_page}
 use Rattle.oodb.proofs.Knowing.{chunk_known, database_known_fewer}
 use Rattle.oodb.proofs.Steps.{goes_nowhere, goes_on_more, well_unread, well_both, failed_later}
@@ -42,18 +42,13 @@ pub record StandsAt {File : Type 0} (tells : Bool) (pages : File → List (List 
   pub has : slice_get chunks place ≡ Some item
   pub it : ChunkStands tells pages s item
 
-held : {X : Type 0} (xs : List X) (place : ℕ) → place < length xs → (x : X) × (slice_get xs place ≡ Some x)
-held [] place below = absurd (omega arith)
-held (x ∷ xs) zero below = (x, refl)
-held (x ∷ xs) (suc place) below = held xs place (omega arith)
-
 -- within the table of a number there is one
 pub stands_within : {File : Type 0} (tells : Bool) (pages : File → List (List ℕ)) (s : Store File) (at place : ℕ) (t : StoredTable File) → IsSound tells pages s → at < length s.tables.items → t ≡ get_or s.tables.items at t
     → place < length t.chunks.items → StandsAt tells pages s t.chunks.items place
 stands_within {File} tells pages s at place t sound within is below =
     let stands : slice_get s.tables.items at ≡ Some t = stands_at s.tables.items at t within is in
     let table : TableIsSound tells pages t = all_stands _ s.tables.items at t sound.tables stands in
-    let found = held t.chunks.items place below in
+    let found = element t.chunks.items place below in
     record {
       item = found.0;
       has = found.1;
