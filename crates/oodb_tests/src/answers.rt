@@ -25,7 +25,7 @@ use std::alloc::Global;
 use std::process::Abort;
 use std::test::Fail;
 
-/// The most FROM places of a select.
+// The most FROM places of a select.
 const MAX_PLACES: u8 = 4;
 
 // The number of the first FROM place, among the first four, whose table doesn't stand.
