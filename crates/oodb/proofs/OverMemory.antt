@@ -11,7 +11,7 @@ use Rattle.oodb.specs.declared.status.Status.TheVariants as status
 use Rattle.oodb.specs.Lines.{word_line}
 use Rattle.oodb.specs.Known.{Known}
 use Rattle.oodb.specs.Causes.{IsCalm}
-use Rattle.oodb.specs.Outcome.{Around, TookReport, TookWordLine, TookFaultLine, Answers, max_of_words}
+use Rattle.oodb.specs.Outcome.{Around, TookReport, TookWordLine, TookFaultLine, IsRun, max_of_words}
 use Rattle.oodb.specs.InMemory.{Reports, IsEnd, TellsItsFault, IsLineOf, ReportsItsScript}
 use Rattle.oodb.proofs.Running.{at_status}
 use Rattle.oodb.proofs.Statuses.{good_words, calm_never, same_line}
@@ -72,7 +72,7 @@ module _ {File : Type 0} (chosen : Result Options ℕ) (bytes report : List ℕ)
   }
 
   -- it ends with a report or the line of a word or of a fault
-  pub ends : (now : Status) → ¬ (now ≡ status.SinkFault) → ¬ (now ≡ status.Memory) → Answers true chosen now before after → IsEnd now
+  pub ends : (now : Status) → ¬ (now ≡ status.SinkFault) → ¬ (now ≡ status.Memory) → IsRun true chosen now before after → IsEnd now
   ends status.Fine uncut memory took = inl (inl refl)
   ends status.SomeFailed uncut memory took = inl (inr refl)
   ends status.Words uncut memory took = inr (inl refl)
@@ -82,7 +82,7 @@ module _ {File : Type 0} (chosen : Result Options ℕ) (bytes report : List ℕ)
   ends status.Memory uncut memory none = absurd (memory refl)
 
   -- a word at fault, and nothing else, has its line
-  pub word_told : (i : ℕ) (now : Status) → chosen ≡ Err i → Answers true chosen now before after → ¬ (now ≡ status.SinkFault) → (now ≡ status.Words) × (report ≡ word_line i)
+  pub word_told : (i : ℕ) (now : Status) → chosen ≡ Err i → IsRun true chosen now before after → ¬ (now ≡ status.SinkFault) → (now ≡ status.Words) × (report ≡ word_line i)
   word_told i status.Fine bad took uncut = absurd (good_words chosen i bad took.is.words)
   word_told i status.SomeFailed bad took uncut = absurd (good_words chosen i bad took.is.words)
   word_told i status.Words bad took uncut = (refl, word_is took i bad)
@@ -92,7 +92,7 @@ module _ {File : Type 0} (chosen : Result Options ℕ) (bytes report : List ℕ)
   word_told i status.Memory bad none uncut = absurd (good_words chosen i bad none.words)
 
   -- a fault of the bytes, and nothing else, has its line
-  pub tells_fault : (now : Status) → ¬ (now ≡ status.SinkFault) → ¬ (now ≡ status.Memory) → Answers true chosen now before after → IsOk chosen → TellsItsFault bytes now report
+  pub tells_fault : (now : Status) → ¬ (now ≡ status.SinkFault) → ¬ (now ≡ status.Memory) → IsRun true chosen now before after → IsOk chosen → TellsItsFault bytes now report
   tells_fault status.Fine uncut memory took ok name byte fault = absurd (no_fault_too bytes took.is.script name byte (if_some_at before.source.left bytes (λ bs. IsScript bs took.is.script) over.left took.is.script_is) fault)
   tells_fault status.SomeFailed uncut memory took ok name byte fault = absurd (no_fault_too bytes took.is.script name byte (if_some_at before.source.left bytes (λ bs. IsScript bs took.is.script) over.left took.is.script_is) fault)
   tells_fault status.Words uncut memory took ok name byte fault = absurd (good_words chosen took.is.word took.is.is ok)
@@ -102,7 +102,7 @@ module _ {File : Type 0} (chosen : Result Options ℕ) (bytes report : List ℕ)
   tells_fault status.Memory uncut memory none ok name byte fault = absurd (memory refl)
 
   -- the bytes of a script are reported on
-  pub completes : (now : Status) → ¬ (now ≡ status.SinkFault) → ¬ (now ≡ status.Memory) → Answers true chosen now before after → IsOk chosen → ReportsItsScript bytes now
+  pub completes : (now : Status) → ¬ (now ≡ status.SinkFault) → ¬ (now ≡ status.Memory) → IsRun true chosen now before after → IsOk chosen → ReportsItsScript bytes now
   completes status.Fine uncut memory took ok s script = inl refl
   completes status.SomeFailed uncut memory took ok s script = inr refl
   completes status.Words uncut memory took ok s script = absurd (good_words chosen took.is.word took.is.is ok)
@@ -112,8 +112,8 @@ module _ {File : Type 0} (chosen : Result Options ℕ) (bytes report : List ℕ)
   completes status.Memory uncut memory none ok s script = absurd (memory refl)
 
   -- and no other status is theirs
-  pub words_alone : (now : Status) → Answers true chosen now before after → IsOk chosen → ¬ (now ≡ status.Words)
+  pub words_alone : (now : Status) → IsRun true chosen now before after → IsOk chosen → ¬ (now ≡ status.Words)
   words_alone now answers ok is = let took = at_status true chosen before after now status.Words is answers in good_words chosen took.is.word took.is.is ok
 
-  pub fault_alone : (now : Status) → Answers true chosen now before after → now ≡ status.Script → IsOk chosen × IsLineOf bytes report
+  pub fault_alone : (now : Status) → IsRun true chosen now before after → now ≡ status.Script → IsOk chosen × IsLineOf bytes report
   fault_alone now answers is = let took = at_status true chosen before after now status.Script is answers in (took.is.words, line_is took)

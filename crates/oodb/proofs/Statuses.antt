@@ -15,7 +15,7 @@ use Rattle.oodb.specs.declared.status.Status.{Status}
 use Rattle.oodb.specs.declared.status.Status.TheVariants as status
 use Rattle.oodb.specs.Lines.{fault_line}
 use Rattle.oodb.specs.Causes.{IsCalm, DeviceKept}
-use Rattle.oodb.specs.Outcome.{Around, IsFaultLine, IsReport, MayWrite, CutShort, SourceFailed, NoMemory, Answers, IsReported}
+use Rattle.oodb.specs.Outcome.{Around, IsFaultLine, IsReport, MayWrite, CutShort, SourceFailed, NoMemory, IsRun, IsReported}
 use Rattle.oodb.proofs.Running.{at_status}
 use Rattle.oodb.specs.Statuses.{TellsFault, IsNoScript, SinkRose, SinkKept, SinkCalm, IsAnswered}
 
@@ -77,7 +77,7 @@ same_line bytes name other byte place fault again =
 
 module _ {File : Type 0} (tells : Bool) (chosen : Result Options ℕ) (before after : Around File) where
   -- a word at fault: the source is unread
-  pub unread : (i : ℕ) (now : Status) → chosen ≡ Err i → Answers tells chosen now before after
+  pub unread : (i : ℕ) (now : Status) → chosen ≡ Err i → IsRun tells chosen now before after
       → (after.source ≡ before.source) × ((now ≡ status.Words) ⊎ (now ≡ status.SinkFault))
   unread i status.Fine bad took = absurd (good_words chosen i bad took.is.words)
   unread i status.SomeFailed bad took = absurd (good_words chosen i bad took.is.words)
@@ -96,7 +96,7 @@ module _ {File : Type 0} (tells : Bool) (chosen : Result Options ℕ) (before af
   may_calm text (inr (inl fault)) = fault.calm
   may_calm text (inr (inr report)) = report.1.calm
 
-  pub calm : (now : Status) → Answers tells chosen now before after → ¬ (now ≡ status.SourceFault) → after.source.faults ≡ before.source.faults
+  pub calm : (now : Status) → IsRun tells chosen now before after → ¬ (now ≡ status.SourceFault) → after.source.faults ≡ before.source.faults
   calm status.Fine took never = took.is.calm
   calm status.SomeFailed took never = took.is.calm
   calm status.Words took never = ap (λ t. t.faults) took.is.unread
@@ -109,10 +109,10 @@ module _ {File : Type 0} (tells : Bool) (chosen : Result Options ℕ) (before af
   sink_rose : CutShort tells chosen before after → SinkRose before.sink after.sink
   sink_rose cut = stopped_rose cut.text before.sink after.sink cut.cause cut.stopped
 
-  pub sink_cut : (now : Status) → Answers tells chosen now before after → now ≡ status.SinkFault → SinkRose before.sink after.sink × CutShort tells chosen before after
+  pub sink_cut : (now : Status) → IsRun tells chosen now before after → now ≡ status.SinkFault → SinkRose before.sink after.sink × CutShort tells chosen before after
   sink_cut now answers is = let cut = at_status tells chosen before after now status.SinkFault is answers in (sink_rose cut, cut)
 
-  pub sink_kept : (now : Status) → Answers tells chosen now before after → ¬ (now ≡ status.SinkFault) → SinkKept before.sink after.sink
+  pub sink_kept : (now : Status) → IsRun tells chosen now before after → ¬ (now ≡ status.SinkFault) → SinkKept before.sink after.sink
   sink_kept status.Fine took never = took_kept took.text before.sink after.sink took.took
   sink_kept status.SomeFailed took never = took_kept took.text before.sink after.sink took.took
   sink_kept status.Words took never = took_kept took.text before.sink after.sink took.took
@@ -122,7 +122,7 @@ module _ {File : Type 0} (tells : Bool) (chosen : Result Options ℕ) (before af
   sink_kept status.Memory none never = silent_kept before.sink after.sink none.silent
 
   -- where no statement was answered the device is as it was
-  pub device_still : (now : Status) → Answers tells chosen now before after → ¬ (IsReported now) → ¬ (now ≡ status.SinkFault) → after.device ≡ before.device
+  pub device_still : (now : Status) → IsRun tells chosen now before after → ¬ (IsReported now) → ¬ (now ≡ status.SinkFault) → after.device ≡ before.device
   device_still status.Fine took silent uncut = absurd (silent (inl refl))
   device_still status.SomeFailed took silent uncut = absurd (silent (inr refl))
   device_still status.Words took silent uncut = took.is.still
@@ -145,7 +145,7 @@ module _ {File : Type 0} (tells : Bool) (chosen : Result Options ℕ) (before af
   may_kept text (inr (inl fault)) = still_kept before.device after.device fault.still
   may_kept text (inr (inr report)) = caused_kept report.0 text report.1
 
-  pub device_kept : (now : Status) → Answers tells chosen now before after → DeviceKept before.device after.device
+  pub device_kept : (now : Status) → IsRun tells chosen now before after → DeviceKept before.device after.device
   device_kept status.Fine took = caused_kept status.Fine took.text took.is
   device_kept status.SomeFailed took = caused_kept status.SomeFailed took.text took.is
   device_kept status.Words took = still_kept before.device after.device took.is.still
@@ -177,7 +177,7 @@ module _ {File : Type 0} (tells : Bool) (chosen : Result Options ℕ) (before af
       (λ bytes none name byte fault. absurd (none name byte fault)) (faultless report.0 text report.1)
 
   -- each fault of the source's bytes is told
-  pub fault_told : (now : Status) → Answers tells chosen now before after → IsOk chosen → TellsFault chosen now before after
+  pub fault_told : (now : Status) → IsRun tells chosen now before after → IsOk chosen → TellsFault chosen now before after
   fault_told status.Fine took ok = faultless status.Fine took.text took.is
   fault_told status.SomeFailed took ok = faultless status.SomeFailed took.text took.is
   fault_told status.Words took ok = absurd (good_words chosen took.is.word took.is.is ok)
@@ -193,11 +193,11 @@ module _ {File : Type 0} (tells : Bool) (chosen : Result Options ℕ) (before af
   no_script text found = if_follows before.source.left (λ bytes. IsFault bytes found.name found.byte) (λ bytes. IsNoScript bytes)
       (λ bytes fault s script. no_fault_too bytes s found.name found.byte script fault) found.fault
 
-  pub never_script : (now : Status) → Answers tells chosen now before after → now ≡ status.Script → IfSome before.source.left (λ bytes. IsNoScript bytes)
+  pub never_script : (now : Status) → IsRun tells chosen now before after → now ≡ status.Script → IfSome before.source.left (λ bytes. IsNoScript bytes)
   never_script now answers is = let took = at_status tells chosen before after now status.Script is answers in no_script took.text took.is
 
   -- where no count rose, a script is reported on
-  pub answered : (now : Status) → Answers tells chosen now before after → IsOk chosen → IsCalm before.source.faults after.source.faults → SinkCalm before.sink after.sink
+  pub answered : (now : Status) → IsRun tells chosen now before after → IsOk chosen → IsCalm before.source.faults after.source.faults → SinkCalm before.sink after.sink
       → IfSome before.source.left (λ bytes. IsAnswered bytes now)
   answered status.Fine took ok calm kept = if_any before.source.left (λ bytes. IsAnswered bytes status.Fine) (λ bytes s script. inl (inl refl))
   answered status.SomeFailed took ok calm kept = if_any before.source.left (λ bytes. IsAnswered bytes status.SomeFailed) (λ bytes s script. inl (inr refl))

@@ -155,16 +155,16 @@ abbrev pub WholeOrCut : List ℕ → Status → Status → Seen → Seen → Typ
 WholeOrCut text full now before after = Whole text full now before after ⊎ Cut text now before after
 
 -- what a run made of its words, its source, its sink and its device, whose files tell what they hold or don't
-abbrev pub Answers : {File : Type 0} → Bool → Result Options ℕ → Status → Around File → Around File → Type 0
-Answers tells chosen status.Fine before after = TookReport tells chosen status.Fine before after
-Answers tells chosen status.SomeFailed before after = TookReport tells chosen status.SomeFailed before after
-Answers tells chosen status.Words before after = TookWordLine chosen before after
-Answers tells chosen status.Script before after = TookFaultLine chosen before after
-Answers tells chosen status.SourceFault before after = SourceFailed chosen before after
-Answers tells chosen status.SinkFault before after = CutShort tells chosen before after
-Answers tells chosen status.Memory before after = NoMemory chosen before after
+abbrev pub IsRun : {File : Type 0} → Bool → Result Options ℕ → Status → Around File → Around File → Type 0
+IsRun tells chosen status.Fine before after = TookReport tells chosen status.Fine before after
+IsRun tells chosen status.SomeFailed before after = TookReport tells chosen status.SomeFailed before after
+IsRun tells chosen status.Words before after = TookWordLine chosen before after
+IsRun tells chosen status.Script before after = TookFaultLine chosen before after
+IsRun tells chosen status.SourceFault before after = SourceFailed chosen before after
+IsRun tells chosen status.SinkFault before after = CutShort tells chosen before after
+IsRun tells chosen status.Memory before after = NoMemory chosen before after
 
 -- a script that was read is reported on, whatever its source was
 abbrev pub ReportsOn : {File : Type 0} → Bool → Script → Status → Seen → Seen → Back File → Back File → Type 0
 ReportsOn tells script now before after dev_before dev_after = (chosen : Options) (from to : SourceSeen) → IfSome from.left (λ bytes. IsScript bytes script) → to.faults ≡ from.faults
-    → Answers tells (Ok chosen) now (record { source = from; sink = before; device = dev_before }) (record { source = to; sink = after; device = dev_after })
+    → IsRun tells (Ok chosen) now (record { source = from; sink = before; device = dev_before }) (record { source = to; sink = after; device = dev_after })

@@ -13,7 +13,7 @@ ghost use Rattle.oodb.specs.Lines.{Written};
 ghost use Rattle.oodb.specs.Reads.{port_seen, fresh_port};
 ghost use Rattle.oodb.specs.Causes.{DeviceKept, IsCalm};
 ghost use Rattle.oodb.specs.Told.{report_of};
-ghost use Rattle.oodb.specs.Outcome.{source_seen, around, Answers, TookReport, TookWordLine, TookFaultLine, SourceFailed, CutShort, NoMemory, ReportsOn, WholeOrCut, IsReported, status_of, is_failed};
+ghost use Rattle.oodb.specs.Outcome.{source_seen, around, IsRun, TookReport, TookWordLine, TookFaultLine, SourceFailed, CutShort, NoMemory, ReportsOn, WholeOrCut, IsReported, status_of, is_failed};
 ghost use Rattle.oodb.specs.Statuses.{TellsFault, IsNoScript, SinkRose, SinkKept, SinkCalm, IsAnswered};
 ghost use Rattle.oodb.specs.declared.status.Status.TheVariants as status;
 
@@ -40,7 +40,7 @@ pub fn run<S: Source, K: Sink, D: Device>(
     out: &mut K,
     dev: &mut D,
 ) -> Status
-    ensures outcome { Answers D.Port.File.tells (options false words.now) result (around S.Source K.Sink D.Device script.old out.old dev.old) (around S.Source K.Sink D.Device script.new out.new dev.new) }
+    ensures outcome { IsRun D.Port.File.tells (options false words.now) result (around S.Source K.Sink D.Device script.old out.old dev.old) (around S.Source K.Sink D.Device script.new out.new dev.new) }
     ensures report { IsReported result → TookReport D.Port.File.tells (options false words.now) result (around S.Source K.Sink D.Device script.old out.old dev.old) (around S.Source K.Sink D.Device script.new out.new dev.new) }
     ensures words_line { result ≡ status.Words → TookWordLine (options false words.now) (around S.Source K.Sink D.Device script.old out.old dev.old) (around S.Source K.Sink D.Device script.new out.new dev.new) }
     ensures words { IfErr (options false words.now) (λ i. (source_seen S.Source script.new ≡ source_seen S.Source script.old) × ((result ≡ status.Words) ⊎ (result ≡ status.SinkFault))) }
@@ -67,7 +67,7 @@ fn run_words<S: Source, K: Sink, D: Device>(
     out: &mut K,
     dev: &mut D,
 ) -> Status
-    ensures { Answers D.Port.File.tells (options false words.now) result (around S.Source K.Sink D.Device script.old out.old dev.old) (around S.Source K.Sink D.Device script.new out.new dev.new) }
+    ensures { IsRun D.Port.File.tells (options false words.now) result (around S.Source K.Sink D.Device script.old out.old dev.old) (around S.Source K.Sink D.Device script.new out.new dev.new) }
 {
     match read_words(false, words) {
         Err(word) => written_status(put_word_line(out, word), Status::Words),
@@ -83,7 +83,7 @@ fn run_script<S: Source, K: Sink, D: Device>(
     out: &mut K,
     dev: &mut D,
 ) -> Status
-    ensures { Answers D.Port.File.tells (Ok options) result (around S.Source K.Sink D.Device source.old out.old dev.old) (around S.Source K.Sink D.Device source.new out.new dev.new) }
+    ensures { IsRun D.Port.File.tells (Ok options) result (around S.Source K.Sink D.Device source.old out.old dev.old) (around S.Source K.Sink D.Device source.new out.new dev.new) }
 {
     match read_script(alloc, source) {
         Ok(script) => report(alloc, &script, out, dev),
