@@ -14,7 +14,7 @@ use Rattle.hv_model.specs.Scope.{place_refusal, refusal_behind, places_refusal}
 use Rattle.hv_model.specs.Bound.{first_of, all_items, names_refusal, grouping_refusal, order_refusal, bind_refusal}
 use Rattle.hv_bind.specs.declared.binding.BindFault.{BindFault}
 use Rattle.hv_bind.specs.declared.binding.BindFault.TheVariants.{Refused, Memory}
-use Rattle.hv_bind.specs.Cause.{Explains}
+use Rattle.hv_bind.specs.Cause.{IsFirstRefusal}
 use Rattle.hv_bind.specs.Keys.{keys_refusal}
 
 -- ---- points of which none stands
@@ -69,6 +69,6 @@ keys_last x heads places asts items made keys names grouping p a k same m =
     order_of x heads places items keys p are k ∙ sym (order_last x heads (sym names) (sym grouping))
 
 -- what explains a refusal explains the same
-pub explains_same : (a b : Option Refusal) (fault : BindFault) → a ≡ b → Explains a fault → Explains b fault
-explains_same a b (Refused r) e h = sym e ∙ h
-explains_same a b Memory e h = tt
+pub first_refusal_same : (a b : Option Refusal) (fault : BindFault) → a ≡ b → IsFirstRefusal a fault → IsFirstRefusal b fault
+first_refusal_same a b (Refused r) e h = sym e ∙ h
+first_refusal_same a b Memory e h = tt

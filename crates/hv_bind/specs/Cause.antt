@@ -5,6 +5,6 @@ use Rattle.hv_bind.specs.declared.binding.BindFault.{BindFault}
 use Rattle.hv_bind.specs.declared.binding.BindFault.TheVariants.{Refused, Memory}
 
 -- a refusal is the first that stands; want of memory has no cause
-abbrev pub Explains : Option Refusal → BindFault → Type 0
-Explains first (Refused r) = first ≡ Some r
-Explains first Memory = ⊤
+abbrev pub IsFirstRefusal : Option Refusal → BindFault → Type 0
+IsFirstRefusal first (Refused r) = first ≡ Some r
+IsFirstRefusal first Memory = ⊤

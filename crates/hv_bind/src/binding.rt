@@ -3,7 +3,7 @@ ghost use Rattle.std.specs.Prelude.{◌≡◌, true, None, length, map, IfOk, If
 ghost use Rattle.hv_model.specs.Scope.{places_refusal};
 ghost use Rattle.hv_model.specs.Fits.{FitsSchemas};
 ghost use Rattle.hv_model.specs.Bound.{schemas_of, is_grouped, bind_refusal, bound_query};
-ghost use Rattle.hv_bind.specs.Cause.{Explains};
+ghost use Rattle.hv_bind.specs.Cause.{IsFirstRefusal};
 
 use crate::scope::Scope;
 use hv_model::{BoundQuery, Places, Refusal, SelectAst, TableHead, is_grouped};
@@ -55,7 +55,7 @@ pub fn bind(alloc: Global, ast: &SelectAst, heads: &[TableHead]) -> Result<Bound
     ensures bound { IfOk result (λ q. q ≡ bound_query ast.now heads.now) }
     ensures allowed { IfOk result (λ q. bind_refusal ast.now heads.now ≡ None) }
     ensures fits { IfOk result (λ q. FitsSchemas (schemas_of heads.now) q) }
-    ensures refused { IfErr result (λ fault. Explains (bind_refusal ast.now heads.now) fault) }
+    ensures refused { IfErr result (λ fault. IsFirstRefusal (bind_refusal ast.now heads.now) fault) }
 {
     let scope = Scope {
         places: ast.places.as_slice(),

@@ -1,7 +1,7 @@
 // Order keys.
 ghost use Rattle.std.specs.Prelude.{◌≡◌, ◌-◌, ◌&&◌, nat_le, Some, None, map, IfOk, IfErr, if◌then◌else◌};
 ghost use Rattle.hv_model.specs.Bound as spec;
-ghost use Rattle.hv_bind.specs.Cause.{Explains};
+ghost use Rattle.hv_bind.specs.Cause.{IsFirstRefusal};
 ghost use Rattle.hv_bind.specs.Keys.{key_refusal, keys_refusal};
 
 use crate::binding::BindFault;
@@ -54,7 +54,7 @@ impl Scope<'_> {
     fn sort_key(&self, items: &[Item], key: &KeyAst) -> Result<SortKey, BindFault>
         ensures key { IfOk result (λ bound. bound ≡ spec.key_of self.now.places.now self.now.heads.now items.now key.now) }
         ensures allowed { IfOk result (λ _. key_refusal self.now.places.now self.now.heads.now items.now key.now ≡ None) }
-        ensures refused { IfErr result (λ fault. Explains (key_refusal self.now.places.now self.now.heads.now items.now key.now) fault) }
+        ensures refused { IfErr result (λ fault. IsFirstRefusal (key_refusal self.now.places.now self.now.heads.now items.now key.now) fault) }
     {
         let Some(item) = self.key_item(items, &key.by) else {
             return Err(BindFault::Refused(Refusal::NoOutput { byte: key.byte }));
@@ -78,7 +78,7 @@ impl Scope<'_> {
     ) -> Result<SortKeys, BindFault>
         ensures keys { IfOk result (λ bound. bound ≡ map (spec.key_of self.now.places.now self.now.heads.now items.now) keys.now) }
         ensures allowed { IfOk result (λ _. keys_refusal self.now.places.now self.now.heads.now items.now keys.now ≡ None) }
-        ensures refused { IfErr result (λ fault. Explains (keys_refusal self.now.places.now self.now.heads.now items.now keys.now) fault) }
+        ensures refused { IfErr result (λ fault. IsFirstRefusal (keys_refusal self.now.places.now self.now.heads.now items.now keys.now) fault) }
     {
         let mut bound = Listed::with_capacity(alloc, keys.len())?;
         for key in keys {

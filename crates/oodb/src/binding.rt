@@ -3,7 +3,7 @@ ghost use Rattle.std.specs.Prelude.{◌≡◌, ◌<◌, length, position, true, 
 ghost use Rattle.std.specs.List.{All};
 ghost use Rattle.hv_model.specs.Bound.{is_grouped};
 ghost use Rattle.hv_model.specs.Selected as spec;
-ghost use Rattle.hv_bind.specs.Cause.{Explains};
+ghost use Rattle.hv_bind.specs.Cause.{IsFirstRefusal};
 ghost use Rattle.oodb.specs.Stored.{database_of, IsSound};
 
 use crate::store::Store;
@@ -23,7 +23,7 @@ pub fn bind_select<F: PageFile>(
     requires sound { IsSound F.tells F.pages store.now }
     ensures bound { IfOk result (λ q. spec.select_query select.now (database_of store.now) ≡ Some q) }
     ensures within { IfOk result (λ q. All (λ at. at < length store.now.tables.items) q.places) }
-    ensures refused { IfErr result (λ fault. Explains (spec.select_refusal select.now (database_of store.now)) fault) }
+    ensures refused { IfErr result (λ fault. IsFirstRefusal (spec.select_refusal select.now (database_of store.now)) fault) }
 {
     let from = select.places.as_slice();
     if let Some(cause) = places(select, first_absent(store, from)) {

@@ -3,9 +3,9 @@ use Rattle.std.proofs.Common.{None, rules, arith, subst, sym, ◌∙◌}
 use Rattle.hv_model.specs.declared.query.BoundQuery.{BoundQuery}
 use Rattle.hv_model.specs.Fits.{FitsSchemas}
 use Rattle.hv_model.specs.Bound.{schemas_of, bind_refusal}
-use Rattle.hv_bind.specs.Cause.{Explains}
+use Rattle.hv_bind.specs.Cause.{IsFirstRefusal}
 use Rattle.hv_bind.proofs.Fitting.{query_is, query_fits}
-use Rattle.hv_bind.proofs.Refusing.{few_places, keys_last, explains_same}
+use Rattle.hv_bind.proofs.Refusing.{few_places, keys_last, first_refusal_same}
 use Rattle.hv_bind.proofs.binding.bind.Goals as goal
 
 pub invariant_of-scope : goal.invariant_of-scope
@@ -15,7 +15,7 @@ pub returns-in_err-order-clause-refused : goal.returns-in_err-order-clause-refus
 returns-in_err-order-clause-refused c =
     let last = keys_last c.args.ast.now c.args.heads.now c.as_slice.result.now c.as_slice-5.result.now c.as_slice-7.result.now c.in_ok-items.items c.as_slice-8.result.now c.in_ok-check_names.ensures c.in_ok-check_grouping.ensures
     c.as_slice.ensures c.as_slice-5.ensures c.as_slice-8.ensures c.as_slice-7.ensures c.in_ok-items.ensures in
-    let explained : Explains (bind_refusal c.args.ast.now c.args.heads.now) c.in_err-order.field-0.0 = explains_same _ _ _ last c.in_err-order.ensures.refused in
+    let explained : IsFirstRefusal (bind_refusal c.args.ast.now c.args.heads.now) c.in_err-order.field-0.0 = first_refusal_same _ _ _ last c.in_err-order.ensures.refused in
     search rules
 
 pub returns-clause-allowed : goal.returns-clause-allowed

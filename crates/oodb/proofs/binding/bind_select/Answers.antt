@@ -1,6 +1,6 @@
 -- Where the places are allowed each has its head, and the select is refused for its names and types alone.
 use Rattle.std.proofs.Common.{◌<◌, All, length, IfErr, sym, ap, subst, ◌∙◌}
-use Rattle.hv_bind.specs.Cause.{Explains}
+use Rattle.hv_bind.specs.Cause.{IsFirstRefusal}
 use Rattle.oodb.specs.Stored.{database_of}
 use Rattle.oodb.proofs.SelectBinding.{has_heads, are_allowed, refusal_is, select_is, select_within}
 use Rattle.oodb.proofs.binding.bind_select.Goals as goal
@@ -23,4 +23,4 @@ returns-clause-within g c =
 pub returns-clause-refused : goal.returns-clause-refused
 returns-clause-refused g c =
     let had = has_heads c.args.select.now (database_of c.args.store.now) _ _ _ _ _ c.as_slice-from.ensures c.first_absent.ensures c.places.ensures c.in_default.is c.as_slice.ensures.value c.in_ok-heads.ensures.heads in
-    subst (λ o. IfErr c.bind.result (λ fault. Explains o fault)) (sym (refusal_is c.args.select.now (database_of c.args.store.now) c.as_slice.result.now had.allowed had.are)) c.bind.ensures.refused
+    subst (λ o. IfErr c.bind.result (λ fault. IsFirstRefusal o fault)) (sym (refusal_is c.args.select.now (database_of c.args.store.now) c.as_slice.result.now had.allowed had.are)) c.bind.ensures.refused
