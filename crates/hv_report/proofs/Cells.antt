@@ -3,8 +3,7 @@ use Rattle.std.proofs.Common.{◌≡◌, ◌⊎◌, inl, inr, ℕ, ◌+◌, Bool
 use Rattle.std.specs.Prelude.{◌||◌, ◌==◌, codes}
 use Rattle.std.specs.List.{All, flat_map}
 use Rattle.std.specs.Fmt.{signed_decimal}
-use Rattle.std.proofs.lemmas.Bool.{or_left, or_right}
-use Rattle.std.proofs.lemmas.Bool.Decides.{nat_tests}
+use Rattle.std.proofs.lemmas.Bool.{eqb-true, eqb-false, or_left, or_right}
 use Rattle.std.proofs.lemmas.List.Elements.{All-head, All-tail}
 use Rattle.hv_model.specs.Token.{is_digit}
 use Rattle.hv_model.specs.Report.{cell_text, quoted_byte, row_line}
@@ -21,12 +20,8 @@ QuoteOrPlain c = ((c ≡ 39) × (quoted_byte c ≡ 39 ∷ 39 ∷ [])) ⊎ ((nat_
 
 -- by what the test of the byte says
 by_test : (c : ℕ) (t : Bool) → nat_eq c 39 ≡ t → QuoteOrPlain c
-by_test c true e = let same : c ≡ 39 = grind (arith, nat_tests) in inl (same, rw e refl)
+by_test c true e = inl (eqb-true c 39 e, rw e refl)
 by_test c false e = inr (e, rw e refl)
-
--- a plain byte is no quote
-no_quote : (c : ℕ) → nat_eq c 39 ≡ false → c ≡ 39 → ⊥
-no_quote c e same = let no : nat_eq 39 39 ≡ false = rw same at e in cc
 
 quote_or_plain : (c : ℕ) → QuoteOrPlain c
 quote_or_plain c = by_test c (nat_eq c 39) refl
@@ -39,11 +34,11 @@ bytes_told a b x y (inl p) (inl q) e =
 bytes_told a b x y (inl p) (inr q) e =
     let spelt : 39 ∷ 39 ∷ x ≡ b ∷ y = rw (p.1, q.1) at e in
     let same : b ≡ 39 = cc in
-    absurd (no_quote b q.0 same)
+    absurd (eqb-false b 39 q.0 same)
 bytes_told a b x y (inr p) (inl q) e =
     let spelt : a ∷ x ≡ 39 ∷ 39 ∷ y = rw (p.1, q.1) at e in
     let same : a ≡ 39 = cc in
-    absurd (no_quote a p.0 same)
+    absurd (eqb-false a 39 p.0 same)
 bytes_told a b x y (inr p) (inr q) e =
     let spelt : a ∷ x ≡ b ∷ y = rw (p.1, q.1) at e in
     ((cc), (cc))
@@ -61,7 +56,7 @@ ends_here c x y (inl p) stops e =
 ends_here c x y (inr p) stops e =
     let spelt : 39 ∷ x ≡ c ∷ y = rw p.1 at e in
     let same : c ≡ 39 = cc in
-    no_quote c p.0 same
+    eqb-false c 39 p.0 same
 
 -- the end of a text is the first quote that no quote follows
 no_end : (c : ℕ) (x y : List ℕ) → Stops is_quote x → 39 ∷ x ≡ quoted_byte c ++ y → ⊥

@@ -1,7 +1,7 @@
 -- Texts that tell what they are of, whatever follows them.
 use Rattle.std.proofs.Common.{◌≡◌, ℕ, ◌+◌, ◌<◌, ◌≤◌, Bool, true, false, cond, List, [], ◌∷◌, ◌++◌, length, refl, sym, ap, ◌∙◌, append_assoc, arith, nat_eq}
 use Rattle.std.specs.List.{All, AllZip, list_all}
-use Rattle.std.proofs.lemmas.List.Elements.{All-head, All-tail}
+use Rattle.std.proofs.lemmas.List.Elements.{All-head, All-tail, same_from_all_zip}
 use Rattle.std.proofs.lemmas.Bool.{and_parts}
 use Rattle.std.proofs.lemmas.Bool.Decides.{nat_tests}
 
@@ -114,7 +114,4 @@ until_end Good text many Stop End same p limit is one starts ends stop k (a ∷ 
 
 -- equal place by place
 pub zip_equal : {A : Type 0} (xs ys : List A) → AllZip (λ a b. a ≡ b) xs ys → xs ≡ ys
-zip_equal [] [] h = refl
-zip_equal [] (b ∷ ys) h = absurd h
-zip_equal (a ∷ xs) [] h = absurd h
-zip_equal (a ∷ xs) (b ∷ ys) h = let first : a ≡ b = h.0 in let rest : xs ≡ ys = zip_equal xs ys h.1 in cc
+zip_equal xs ys h = sym (same_from_all_zip (λ a b. a ≡ b) xs ys h (λ a b e. sym e))
