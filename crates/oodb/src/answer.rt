@@ -8,7 +8,7 @@ ghost use Rattle.hv_model.specs.Parsed.{parsed, tree_of};
 ghost use Rattle.hv_model.specs.Legal.{may_fail};
 ghost use Rattle.hv_model.specs.OneSession.{Settles};
 ghost use Rattle.hv_model.specs.declared.tree.Ast.TheVariants as ast;
-ghost use Rattle.oodb.specs.Answer.{Keeps, IsImportOf, Imports, AllWell, FailedOver, ReadsTables};
+ghost use Rattle.oodb.specs.Answer.{Keeps, IsImportOf, AllWell, FailedOver, ReadsTables};
 ghost use Rattle.oodb.specs.Stored.{database_of, IsSound, AreFiles, HasFiles};
 ghost use Rattle.oodb.specs.Known.{DatabaseIsKnown};
 ghost use Rattle.oodb.specs.Reads.{port_seen, IsIdle, GoesOn};
@@ -168,6 +168,7 @@ fn create<F: PageFile>(
     Ok(done(store, what))
 }
 
+// The rows of an import become the last chunk of its table, where its command is accepted.
 fn import<P: PageSink>(
     alloc: Global,
     statement: &Statement,
@@ -194,10 +195,31 @@ fn import<P: PageSink>(
     ensures counted { store.new.length ≡ length history.new.items }
     ensures room { vec_capacity history.old ≤ vec_capacity history.new }
 {
-    match import_of(alloc, statement, &table, store)? {
-        None => Ok(refused(store, Refusal::Unbuilt)),
-        Some(at) => add_chunk(alloc, statement, table, at, store, history, port),
-    }
+    let Some(at) = import_of(alloc, statement, &table, store)? else {
+        return Ok(refused(store, Refusal::Unbuilt));
+    };
+    let name = table.name.copy(alloc)?;
+    let session = statement.session.copy(alloc)?;
+    store.reserve(at)?;
+    let schema = &store.tables[at].schema;
+    let chunk = build_chunk(alloc, schema, statement.lines.as_slice(), port)?;
+    let rows = chunk.row_count();
+    store.add_chunk(at, chunk);
+    let chunk = store.made;
+    commit(
+        history,
+        Entry {
+            session,
+            number: statement.number,
+            what: Detail::Import {
+                table: name,
+                chunk,
+                rows,
+            },
+        },
+    );
+    let table = table.name;
+    Ok(done(store, Detail::Import { table, chunk, rows }))
 }
 
 // The number of the table of an import, where its command is accepted.
@@ -221,58 +243,6 @@ fn import_of<F: PageFile>(
         return Ok(None);
     }
     Ok(Some(at))
-}
-
-// The rows of an import become the last chunk of its table.
-fn add_chunk<P: PageSink>(
-    alloc: Global,
-    statement: &Statement,
-    table: Word,
-    at: usize,
-    store: &mut Store<P::File>,
-    history: &mut Vec<Entry>,
-    port: &mut P,
-) -> Result<Reply, Failure>
-    requires imports { Imports statement.now table (database_of store.old) at }
-    requires short { length (line_list statement.now.lines) ≤ 1000000 }
-    requires sound { IsSound P.File.tells P.File.pages store.old }
-    requires counted { store.old.length ≡ length history.old.items }
-    requires room { length history.old.items < most_entries → vec_len history.old < vec_capacity history.old }
-    requires empty { P.written port.old ≡ Some [] }
-    ensures settles { IfOk result (λ reply. (max : ℕ) → Settles statement.now max (Unit {0}) (database_of store.old) history.old.items reply (database_of store.new) history.new.items) }
-    ensures unfailed { IfOk result (λ reply. IsUnfailed reply) }
-    ensures calm { OnOk result (P.write_faults port.new ≡ P.write_faults port.old) }
-    ensures cause { IfErr result (λ failure. IsUnbuilt failure (P.write_faults port.old) (P.write_faults port.new)) }
-    ensures keeps { OnErr result (Keeps (database_of store.old) (database_of store.new) history.old.items history.new.items) }
-    ensures files { (files : List P.File) → AreFiles store.old files → HasFiles store.new files }
-    ensures empty { P.written port.new ≡ Some [] }
-    ensures kept { P.reading port.new ≡ P.reading port.old }
-    ensures sound { IsSound P.File.tells P.File.pages store.new }
-    ensures counted { store.new.length ≡ length history.new.items }
-    ensures room { vec_capacity history.old ≤ vec_capacity history.new }
-{
-    let name = table.name.copy(alloc)?;
-    let session = statement.session.copy(alloc)?;
-    store.reserve(at)?;
-    let schema = &store.tables[at].schema;
-    let chunk = build_chunk(alloc, schema, statement.lines.as_slice(), port)?;
-    let rows = chunk.row_count();
-    store.add_chunk(at, chunk);
-    let chunk = store.made;
-    commit(
-        history,
-        Entry {
-            session,
-            number: statement.number,
-            what: Detail::Import {
-                table: name,
-                chunk,
-                rows,
-            },
-        },
-    );
-    let table = table.name;
-    Ok(done(store, Detail::Import { table, chunk, rows }))
 }
 
 // The answer of a select, over the rows of all its tables.
