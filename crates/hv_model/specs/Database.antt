@@ -67,14 +67,14 @@ import_refusal t s =
     else (if nat_le most_entries s.length then Some HistoryFull else None)
 
 -- a database, or the reason against it
-abbrev pub unless : Option StepRefusal → Database → Result Database StepRefusal
-unless None s = Ok s
-unless (Some cause) s = Err cause
+abbrev pub stepped : Option StepRefusal → Database → Result Database StepRefusal
+stepped None s = Ok s
+stepped (Some cause) s = Err cause
 
 -- a chunk for the table of this number
 abbrev pub import_into : List (List Value) → Database → ℕ → Option Table → Result Database StepRefusal
 import_into rows s at None = Err NoTable
-import_into rows s at (Some t) = unless (import_refusal t s) (with_chunk at t rows s)
+import_into rows s at (Some t) = stepped (import_refusal t s) (with_chunk at t rows s)
 
 abbrev pub import_at : List (List Value) → Database → Option ℕ → Result Database StepRefusal
 import_at rows s None = Err NoTable
@@ -82,5 +82,5 @@ import_at rows s (Some at) = import_into rows s at (slice_get s.tables at)
 
 -- the database after a command, or its first refusal
 abbrev pub step : Database → Command → Result Database StepRefusal
-step s (Create name schema) = unless (create_refusal name s) (with_table name schema s)
+step s (Create name schema) = stepped (create_refusal name s) (with_table name schema s)
 step s (Import name rows) = import_at rows s (table_number s name)

@@ -74,7 +74,7 @@ pub settles_read : (x : Statement) (max : ℕ) (known : Type 0) (s : Database) (
 settles_read x max known s history at read cause counted is refused = settles_early x max known s history at cause counted (early_at x s read is ∙ refused)
 
 -- a command that is refused for some reason is not accepted
-not_ok : (r : Option StepRefusal) (after : Database) → is_some r ≡ true → is_ok (database.unless r after) ≡ false
+not_ok : (r : Option StepRefusal) (after : Database) → is_some r ≡ true → is_ok (database.stepped r after) ≡ false
 not_ok None after e = absurd cc
 not_ok (Some cause) after e = refl
 

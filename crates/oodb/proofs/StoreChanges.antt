@@ -10,7 +10,7 @@ use Rattle.hv_model.specs.declared.catalogue.Table.{Table}
 use Rattle.hv_model.specs.declared.catalogue.Database.{Database}
 use Rattle.hv_model.specs.declared.catalogue.Command.TheVariants.{Import}
 use Rattle.hv_model.proofs.Places.{slice_get-last}
-use Rattle.hv_model.specs.Database.{table_number, import_refusal, import_into, import_at, unless, with_chunk, with_last_chunk, step}
+use Rattle.hv_model.specs.Database.{table_number, import_refusal, import_into, import_at, stepped, with_chunk, with_last_chunk, step}
 use Rattle.hv_view.specs.View.{IsBuilt}
 use Rattle.oodb.specs.declared.store.StoredChunk.{StoredChunk}
 use Rattle.oodb.specs.declared.store.StoredTable.{StoredTable}
@@ -90,7 +90,7 @@ sound_more tells pages tables at t u c within is sound built schema chunks =
 import_steps : (s new : Database) (rows : List (List Value)) (at : ℕ) (t : Table) (number : Option ℕ) → number ≡ Some at → slice_get s.tables at ≡ Some t → import_refusal t s ≡ None
     → with_chunk at t rows s ≡ new → import_at rows s number ≡ Ok new
 import_steps s new rows at t number is stands allowed same =
-    ap (import_at rows s) is ∙ ap (import_into rows s at) stands ∙ ap (λ o. unless o (with_chunk at t rows s)) allowed ∙ ap Ok same
+    ap (import_at rows s) is ∙ ap (import_into rows s at) stands ∙ ap (λ o. stepped o (with_chunk at t rows s)) allowed ∙ ap Ok same
 
 -- the stored tables with one chunk more are the database after the import
 pub step_import : {File : Type 0} (s : Store File) (at : ℕ) (t u : StoredTable File) (c : StoredChunk File) (name : List ℕ) → at < length s.tables.items → t ≡ get_or s.tables.items at t
