@@ -28,8 +28,8 @@ use Rattle.hv_model.specs.Bound.{unless}
 use Rattle.hv_model.specs.Selected.{select_refusal, select_query}
 
 -- the table of a name
-abbrev pub table_of : Database → List ℕ → Option Table
-table_of s name = option_and_then (λ at. slice_get s.tables at) (table_number s name)
+abbrev pub table_named : Database → List ℕ → Option Table
+table_named s name = option_and_then (λ at. slice_get s.tables at) (table_number s name)
 
 -- whether columns make a schema: 1 to 32, with distinct names
 abbrev pub are_schema : List Column → Bool
@@ -40,7 +40,7 @@ abbrev pub command_of : Option Ast → List ℕ → Database → Option Command
 command_of None lines s = None
 command_of (Some (ast.Create table columns)) lines s = if are_schema columns then Some (Create table.name columns) else None
 command_of (Some (ast.Import table wanted)) lines s =
-    option_and_then (λ t. option_map (λ rows. Import table.name rows) (rows_of t.schema lines)) (table_of s table.name)
+    option_and_then (λ t. option_map (λ rows. Import table.name rows) (rows_of t.schema lines)) (table_named s table.name)
 command_of (Some (ast.Purge chunk table)) lines s = None
 command_of (Some (ast.Merge parts table)) lines s = None
 command_of (Some (ast.Session name)) lines s = None

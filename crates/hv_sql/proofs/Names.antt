@@ -35,7 +35,7 @@ use Rattle.hv_model.specs.Sql.{name, create, import, purge, merge, session, barr
 use Rattle.hv_model.specs.SqlReading.{tree_at}
 use Rattle.hv_model.specs.Parsed.{placed, some_tree, tree_of}
 use Rattle.hv_model.specs.Import.{rows_of}
-use Rattle.hv_model.specs.Command.{table_of, are_schema, command_of, detail_of, entry_at}
+use Rattle.hv_model.specs.Command.{table_named, are_schema, command_of, detail_of, entry_at}
 use Rattle.hv_model.specs.Legal.{Accepted, Legal}
 use Rattle.hv_sql.proofs.Standing.{tokens_stand}
 use Rattle.hv_sql.proofs.OneReading.{trees_sound}
@@ -192,7 +192,7 @@ command_named : (tree : Option Ast) (lines : List ℕ) (s : Database) (c : Comma
     → is_name (table_in c) ≡ true
 command_named None lines s c named e = absurd cc
 command_named (Some (ast.Create table columns)) lines s c named e = create_named table columns c (are_schema columns) (named (ast.Create table columns) refl) e
-command_named (Some (ast.Import table wanted)) lines s c named e = import_named table.name lines c (table_of s table.name) (named (ast.Import table wanted) refl) e
+command_named (Some (ast.Import table wanted)) lines s c named e = import_named table.name lines c (table_named s table.name) (named (ast.Import table wanted) refl) e
 command_named (Some (ast.Purge chunk table)) lines s c named e = absurd cc
 command_named (Some (ast.Merge parts table)) lines s c named e = absurd cc
 command_named (Some (ast.Session word)) lines s c named e = absurd cc
