@@ -23,8 +23,8 @@ pub record IsFaultBy (good : What → Bool) (lexemes at : List Lexeme) : Type 0 
   pub short : at ≡ [] → (a : Ast) → IsStatement lexemes a → ⊥
 
 -- the same where lexemes complete it that a text may have
-abbrev pub IsFault : List Lexeme → List Lexeme → Type 0
-IsFault lexemes at = IsFaultBy may_be lexemes at
+abbrev pub IsSyntaxFault : List Lexeme → List Lexeme → Type 0
+IsSyntaxFault lexemes at = IsFaultBy may_be lexemes at
 
 -- the byte of a fault: that of the lexeme there, or the end
 abbrev pub place_of : List Lexeme → ℕ → ℕ

@@ -5,7 +5,7 @@ use Rattle.hv_model.specs.declared.lexeme.Lexeme.{Lexeme}
 use Rattle.hv_model.specs.declared.tree.Ast.{Ast}
 use Rattle.hv_sql.specs.declared.parsing.SqlFault.{SqlFault}
 use Rattle.hv_sql.specs.declared.parsing.SqlFault.TheVariants.{Syntax, Memory}
-use Rattle.hv_model.specs.Fault.{IsStatement, IsFault, place_of}
+use Rattle.hv_model.specs.Fault.{IsStatement, IsSyntaxFault, place_of}
 use Rattle.hv_model.specs.SqlReading.{tree_at}
 use Rattle.hv_model.specs.Parsed.{placed}
 use Rattle.hv_sql.specs.Answer.{Answers, Reads, IsTree, IsSyntax, Explains}
@@ -20,7 +20,7 @@ answer_only (Ok b) end lexemes h a s = ok_is b a (sym h ∙ trees_complete lexem
 answer_only (Err (Syntax byte)) end lexemes h a s = not_both a h.0 (sym (trees_complete lexemes a s) ∙ h.1)
 answer_only (Err Memory) end lexemes h a s = tt
 
-pub answer_told : (r : Result Ast SqlFault) (end : ℕ) (lexemes : List Lexeme) → Answers r end (tree_at lexemes) → (at : List Lexeme) → IsFault lexemes at → IsSyntax r (place_of at end)
+pub answer_told : (r : Result Ast SqlFault) (end : ℕ) (lexemes : List Lexeme) → Answers r end (tree_at lexemes) → (at : List Lexeme) → IsSyntaxFault lexemes at → IsSyntax r (place_of at end)
 answer_told (Ok b) end lexemes h at f = not_both b at (sym h ∙ faults_complete lexemes at f)
 answer_told (Err (Syntax byte)) end lexemes h at f = h.2 ∙ ap (λ z. place_of z end) (err_is h.0 at (sym h.1 ∙ faults_complete lexemes at f))
 answer_told (Err Memory) end lexemes h at f = tt

@@ -13,7 +13,7 @@ use Rattle.hv_sql.proofs.Plain.{is_a, is_plain}
 use Rattle.hv_model.specs.Reading.{Read}
 use Rattle.hv_model.specs.Sql.{statement}
 use Rattle.hv_model.specs.SqlReading.{statement_at}
-use Rattle.hv_model.specs.Fault.{IsStatement, IsFault, IsFaultBy}
+use Rattle.hv_model.specs.Fault.{IsStatement, IsSyntaxFault, IsFaultBy}
 use Rattle.hv_sql.specs.Laws.{OneTree, TreesSound, TreesComplete, FaultsSound, FaultsComplete, OneFault, NoFaultToo}
 use Rattle.hv_model.specs.Reading.{ended, to_end}
 use Rattle.hv_model.specs.SqlReading.{tree_at}
@@ -150,7 +150,7 @@ fronts (s ∷ ss) (t ∷ ts) at other e = go (fronts ss ts at other (tails e))
     go (inr (inr b)) = inr (inr (record { next = b.next; behind = b.behind; after = b.after; is = ap (λ z. t ∷ z) b.is ∙ ap (λ z. z ∷ (ss ++ b.next ∷ b.behind)) (sym (heads e)); begins = b.begins }))
 
 -- a statement that begins beyond a fault
-beyond_fault : (lexemes at other : List Lexeme) (f : IsFault lexemes at) (g : IsFault lexemes other) → Beyond f.front g.front other → ⊥
+beyond_fault : (lexemes at other : List Lexeme) (f : IsSyntaxFault lexemes at) (g : IsSyntaxFault lexemes other) → Beyond f.front g.front other → ⊥
 beyond_fault lexemes at other f g b =
     let us = placed f.more in
     let found = f.begins us (whats-placed f.more) in

@@ -4,7 +4,7 @@ use Rattle.hv_model.specs.declared.lexeme.Lexeme.{Lexeme}
 use Rattle.hv_model.specs.declared.tree.Ast.{Ast}
 use Rattle.hv_sql.specs.declared.parsing.SqlFault.{SqlFault}
 use Rattle.hv_sql.specs.declared.parsing.SqlFault.TheVariants.{Syntax, Memory}
-use Rattle.hv_model.specs.Fault.{IsFault, place_of}
+use Rattle.hv_model.specs.Fault.{IsSyntaxFault, place_of}
 
 -- this tree and no other, unless memory runs out
 abbrev pub IsTree : Result Ast SqlFault → Ast → Type 0
@@ -20,7 +20,7 @@ IsSyntax (Err Memory) byte = ⊤
 
 -- where a fault is told, the lexemes have one at that byte
 abbrev pub Explains : List Lexeme → ℕ → SqlFault → Type 0
-Explains lexemes end (Syntax byte) = (at : List Lexeme) × IsFault lexemes at × (byte ≡ place_of at end)
+Explains lexemes end (Syntax byte) = (at : List Lexeme) × IsSyntaxFault lexemes at × (byte ≡ place_of at end)
 Explains lexemes end Memory = ⊤
 
 -- what the reading of the rules gives, unless memory runs out

@@ -5,7 +5,7 @@ use Rattle.hv_model.specs.declared.lexeme.Lexeme.{Lexeme}
 use Rattle.hv_model.specs.declared.tree.Ast.{Ast}
 use Rattle.hv_model.specs.Lexemes.{tokens_of}
 use Rattle.hv_model.specs.Lexed.{lexemes_of, lexemes}
-use Rattle.hv_model.specs.Fault.{IsStatement, IsFault, place_of}
+use Rattle.hv_model.specs.Fault.{IsStatement, IsSyntaxFault, place_of}
 
 -- the tokens that begin before a byte, where tokens stand in order
 abbrev pub before : ℕ → List Token → List Token
@@ -22,11 +22,11 @@ pub record Completed (text : List ℕ) (byte : ℕ) : Type 0 where
 
 -- the law of faults in texts: what stands before a fault is completed by bytes
 abbrev pub FaultsCompleted : Type 0
-FaultsCompleted = (text : List ℕ) (at : List Lexeme) → IsFault (lexemes text) at → Completed text (place_of at (length text))
+FaultsCompleted = (text : List ℕ) (at : List Lexeme) → IsSyntaxFault (lexemes text) at → Completed text (place_of at (length text))
 
 -- and with the token at fault no statement's text begins: none that has the same bytes up to the token's end and the same tokens up to it
 abbrev pub FaultsFinal : Type 0
 FaultsFinal =
     (text other : List ℕ) (front : List Token) (t : Token) (us behind : List Token) (a : Ast) → tokens_of text ≡ front ++ t ∷ us
-    → IsFault (lexemes text) (lexemes_of text (t ∷ us)) → take t.to other ≡ take t.to text → tokens_of other ≡ front ++ t ∷ behind
+    → IsSyntaxFault (lexemes text) (lexemes_of text (t ∷ us)) → take t.to other ≡ take t.to text → tokens_of other ≡ front ++ t ∷ behind
     → IsStatement (lexemes other) a → ⊥

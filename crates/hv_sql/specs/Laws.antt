@@ -6,7 +6,7 @@ use Rattle.hv_model.specs.declared.tree.Ast.TheVariants.{Select}
 use Rattle.hv_model.specs.declared.tree.SelectAst.{SelectAst}
 use Rattle.hv_model.specs.SqlReading.{tree_at}
 use Rattle.hv_model.specs.Bound.{is_grouped}
-use Rattle.hv_model.specs.Fault.{IsStatement, IsFault}
+use Rattle.hv_model.specs.Fault.{IsStatement, IsSyntaxFault}
 
 -- lexemes are at most one statement
 abbrev pub OneTree : Type 0
@@ -22,19 +22,19 @@ TreesComplete = (lexemes : List Lexeme) (a : Ast) → IsStatement lexemes a → 
 
 -- what is told is the fault
 abbrev pub FaultsSound : Type 0
-FaultsSound = (lexemes at : List Lexeme) → tree_at lexemes ≡ Err at → IsFault lexemes at
+FaultsSound = (lexemes at : List Lexeme) → tree_at lexemes ≡ Err at → IsSyntaxFault lexemes at
 
 -- each fault is told
 abbrev pub FaultsComplete : Type 0
-FaultsComplete = (lexemes at : List Lexeme) → IsFault lexemes at → tree_at lexemes ≡ Err at
+FaultsComplete = (lexemes at : List Lexeme) → IsSyntaxFault lexemes at → tree_at lexemes ≡ Err at
 
 -- lexemes have at most one fault
 abbrev pub OneFault : Type 0
-OneFault = (lexemes at other : List Lexeme) → IsFault lexemes at → IsFault lexemes other → at ≡ other
+OneFault = (lexemes at other : List Lexeme) → IsSyntaxFault lexemes at → IsSyntaxFault lexemes other → at ≡ other
 
 -- a statement has no fault
 abbrev pub NoFaultToo : Type 0
-NoFaultToo = (lexemes at : List Lexeme) (a : Ast) → IsStatement lexemes a → IsFault lexemes at → ⊥
+NoFaultToo = (lexemes at : List Lexeme) (a : Ast) → IsStatement lexemes a → IsSyntaxFault lexemes at → ⊥
 
 -- a select that is grouped has one place
 abbrev pub OnePlace : Type 0

@@ -4,7 +4,7 @@ ghost use Rattle.hv_model.specs.SqlReading.{statement_at};
 ghost use Rattle.hv_model.specs.SqlReading.{tree_at};
 ghost use Rattle.hv_model.specs.Lexed as spec;
 ghost use Rattle.hv_model.specs.Parsed.{parsed};
-ghost use Rattle.hv_model.specs.Fault.{IsStatement, IsFault, place_of};
+ghost use Rattle.hv_model.specs.Fault.{IsStatement, IsSyntaxFault, place_of};
 ghost use Rattle.hv_sql.specs.Code.{Gives};
 ghost use Rattle.hv_sql.specs.Answer.{Answers, Reads, IsTree, IsSyntax, Explains};
 ghost use Rattle.hv_model.specs.declared.lexeme.Lexeme.{Lexeme};
@@ -96,7 +96,7 @@ pub fn parse(alloc: Global, text: &[u8]) -> Result<Ast, SqlFault>
     ensures read { Reads result (parsed text.now) }
     ensures found { IfOk result (λ a. IsStatement (spec.lexemes text.now) a) }
     ensures only { (a : Ast) → IsStatement (spec.lexemes text.now) a → IsTree result a }
-    ensures told { (at : List Lexeme) → IsFault (spec.lexemes text.now) at → IsSyntax result (place_of at (length text.now)) }
+    ensures told { (at : List Lexeme) → IsSyntaxFault (spec.lexemes text.now) at → IsSyntax result (place_of at (length text.now)) }
     ensures fault { IfErr result (λ e. Explains (spec.lexemes text.now) (length text.now) e) }
 {
     let tokens = lex(alloc, text)?;
