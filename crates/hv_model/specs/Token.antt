@@ -1,5 +1,5 @@
 -- The tokens of a statement's text. This project's own, after the lexical elements of ISO/IEC 9075.
-use Rattle.std.specs.Prelude.{ℕ, Bool, false, not, ◌||◌, ◌&&◌, ◌==◌, nat_le, nat_eq, List, [], ◌∷◌, length, map, codes}
+use Rattle.std.specs.Prelude.{ℕ, Bool, false, not, ◌||◌, ◌&&◌, ◌==◌, nat_le, nat_eq, IsTrue, List, [], ◌∷◌, length, map, codes}
 use Rattle.std.specs.List.{list_any, list_all}
 use Rattle.std.specs.Char.{to_ascii_lowercase}
 use Rattle.std.specs.Cmp.Lexicographic.{pointwise}
@@ -45,6 +45,10 @@ begins_as_name (b ∷ _) = begins_name b
 -- whether bytes are a name: they begin as one, each is a letter, a digit or `_`, they are at most 30 and no keyword
 abbrev pub is_name : List ℕ → Bool
 is_name token = begins_as_name token && list_all is_name_byte token && nat_le (length token) 30 && not (is_keyword token)
+
+-- what each name has: letters, digits and `_` alone
+abbrev pub IsPlain : List ℕ → Type 0
+IsPlain name = IsTrue (list_all is_name_byte name)
 
 -- whether bytes are one digit or more
 abbrev pub is_number : List ℕ → Bool

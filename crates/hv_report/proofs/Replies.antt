@@ -5,7 +5,7 @@ use Rattle.std.specs.List.{All, AllZip, flat_map}
 use Rattle.std.specs.Fmt.{decimal}
 use Rattle.std.proofs.lemmas.Bool.{or_right}
 use Rattle.std.proofs.lemmas.List.{append-nil, append_cancel_left}
-use Rattle.hv_model.specs.Token.{begins_name, is_digit, is_name_byte}
+use Rattle.hv_model.specs.Token.{IsPlain, begins_name, is_digit, is_name_byte}
 use Rattle.hv_model.specs.Report.{detail_text, failure_text, refusal_text, replies_text, reply_text, row_line}
 use Rattle.hv_model.specs.declared.catalogue.Detail.{Detail}
 use Rattle.hv_model.specs.declared.catalogue.Detail.TheVariants as detail
@@ -16,7 +16,7 @@ use Rattle.hv_model.specs.declared.reply.Refusal.TheVariants as refused
 use Rattle.hv_model.specs.declared.reply.Failure.{Failure}
 use Rattle.hv_model.specs.declared.reply.Failure.TheVariants.{Read, Write, Damaged, Memory}
 use Rattle.hv_model.specs.declared.reply.Why.{Why}
-use Rattle.hv_report.specs.Law.{DetailInRange, DetailNamed, FailureInRange, Is32, IsPlain, RefusalInRange, ReplyInRange, ReplyNamed, SameReply}
+use Rattle.hv_report.specs.Law.{DetailInRange, DetailNamed, FailureInRange, Is32, RefusalInRange, ReplyInRange, ReplyNamed, SameReply}
 use Rattle.hv_report.proofs.Decoding.{Anything, Decodes, IsMany, Starts, Stops, differ, run_told, starts_append, stops_weaker, until_end}
 use Rattle.hv_report.proofs.Numbers.{IsWide, decimal_starts, decimal_told, wide_32, wide_64}
 use Rattle.hv_report.proofs.Cells.{rows_told}

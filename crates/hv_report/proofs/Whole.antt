@@ -5,10 +5,10 @@ use Rattle.std.specs.Fmt.{decimal}
 use Rattle.std.specs.List.{All, AllPairs, AllZip}
 use Rattle.std.proofs.lemmas.List.{append_cancel_left}
 use Rattle.std.proofs.lemmas.List.Elements.{All-head, All-map, All-tail}
-use Rattle.hv_model.specs.Token.{is_digit}
+use Rattle.hv_model.specs.Token.{IsPlain, is_digit}
 use Rattle.hv_model.specs.Report.{entries_text, history_text, replies_text, session_text, sessions_text}
 use Rattle.hv_model.specs.declared.reply.Reply.{Reply}
-use Rattle.hv_report.specs.Law.{Is64, IsPlain, OneReport, SameReply, SameSession, SessionInRange, SessionNamed}
+use Rattle.hv_report.specs.Law.{Is64, OneReport, SameReply, SameSession, SessionInRange, SessionNamed}
 use Rattle.hv_report.specs.Text.{names_of, replies_of, stats_text, text_of}
 use Rattle.hv_report.specs.declared.report.Report.{Report}
 use Rattle.hv_report.specs.declared.report.SessionReport.{SessionReport}

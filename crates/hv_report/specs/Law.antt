@@ -1,8 +1,8 @@
 -- Reports are told by their bytes. This project's own.
-use Rattle.std.specs.Prelude.{◌≡◌, ◌≢◌, ◌⊎◌, ℕ, ◌<◌, ◌^◌, IsTrue, List, length, IfSome, FitsSigned}
+use Rattle.std.specs.Prelude.{◌≡◌, ◌≢◌, ◌⊎◌, ℕ, ◌<◌, ◌^◌, List, length, IfSome, FitsSigned}
 use Rattle.std.specs.Int.{w128}
-use Rattle.std.specs.List.{All, AllPairs, AllZip, list_all}
-use Rattle.hv_model.specs.Token.{is_name_byte}
+use Rattle.std.specs.List.{All, AllPairs, AllZip}
+use Rattle.hv_model.specs.Token.{IsPlain}
 use Rattle.hv_model.specs.declared.catalogue.Detail.{Detail}
 use Rattle.hv_model.specs.declared.catalogue.Detail.TheVariants as detail
 use Rattle.hv_model.specs.declared.catalogue.Entry.{Entry}
@@ -19,10 +19,6 @@ use Rattle.hv_report.specs.Text.{names_of, text_of}
 use Rattle.hv_report.specs.declared.report.Report.{Report}
 use Rattle.hv_report.specs.declared.report.SessionReport.{SessionReport}
 use Rattle.hv_report.specs.declared.report.Stats.{Stats}
-
--- what names have: letters, digits and `_` alone
-abbrev pub IsPlain : List ℕ → Type 0
-IsPlain name = IsTrue (list_all is_name_byte name)
 
 -- the table is named plainly
 abbrev pub DetailNamed : Detail → Type 0

@@ -1,9 +1,9 @@
 -- The names that a legal outcome of a script tells are plain: letters, digits and `_` alone.
 use Rattle.std.proofs.Common.{◌≡◌, ℕ, suc, true, List, [], ◌∷◌, Some, refl, sym, subst}
-use Rattle.std.specs.Prelude.{IsTrue, codes}
-use Rattle.std.specs.List.{All, list_all, slice_get}
+use Rattle.std.specs.Prelude.{codes}
+use Rattle.std.specs.List.{All, slice_get}
 use Rattle.std.proofs.lemmas.List.Elements.{All-nil, All-cons}
-use Rattle.hv_model.specs.Token.{is_name, is_name_byte}
+use Rattle.hv_model.specs.Token.{IsPlain, is_name}
 use Rattle.hv_model.specs.declared.script.Statement.{Statement}
 use Rattle.hv_model.specs.declared.script.Script.{Script}
 use Rattle.hv_model.specs.declared.catalogue.Entry.{Entry}
@@ -16,10 +16,6 @@ use Rattle.hv_model.proofs.TokenLaws.{name_bytes}
 use Rattle.hv_model.proofs.Whole.{IsPlaced, placed, answered_at, stands_at}
 use Rattle.hv_sql.proofs.Names.{told_table, entry_named}
 use Rattle.hv_script.proofs.Source.{one_session}
-
--- letters, digits and `_` alone
-abbrev pub IsPlain : List ℕ → Type 0
-IsPlain name = IsTrue (list_all is_name_byte name)
 
 -- the session and the table of an entry
 pub record PlainEntry (e : Entry) : Type 0 where

@@ -8,7 +8,8 @@ use Rattle.hv_model.specs.declared.catalogue.Entry.{Entry}
 use Rattle.hv_model.specs.declared.reply.Reply.{Reply}
 use Rattle.hv_model.specs.declared.reply.Reply.TheVariants.{Done, Rows, Refused, Failed}
 use Rattle.hv_model.specs.Legal.{Legal}
-use Rattle.hv_report.specs.Law.{Named, IsPlain, DetailNamed, EntryNamed, ReplyNamed, SessionNamed}
+use Rattle.hv_model.specs.Token.{IsPlain}
+use Rattle.hv_report.specs.Law.{Named, DetailNamed, EntryNamed, ReplyNamed, SessionNamed}
 use Rattle.hv_sql.proofs.Names.{told_table}
 use Rattle.hv_script.specs.Script.{HasOneSession}
 use Rattle.hv_script.proofs.Names.{NamesPlain, PlainReply, names_are_plain}
