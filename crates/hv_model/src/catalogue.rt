@@ -1,4 +1,5 @@
 // The catalogue: tables of chunks of rows, and the commands that change it.
+use crate::session_name::SessionName;
 use hv_row::{Bytes, Copied, Listed, Rows, Schema};
 use std::alloc::{AllocError, Global};
 
@@ -76,7 +77,7 @@ pub enum Detail {
 /// An entry of the history: the statement, by its session and its number there, and what it did.
 #[derive(Debug, Drop)]
 pub struct Entry {
-    pub session: Bytes,
+    pub session: SessionName,
     pub number: u32,
     pub what: Detail,
 }

@@ -7,6 +7,7 @@ mod lexeme;
 mod query;
 mod reply;
 mod script;
+mod session_name;
 mod token;
 mod tree;
 
@@ -20,6 +21,7 @@ pub use query::{
 };
 pub use reply::{Failure, Refusal, Replies, Reply, Why};
 pub use script::{FaultName, Phase, Phases, Script, ScriptFault, SessionNames, Statement};
+pub use session_name::SessionName;
 pub use token::{
     MAX_NAME_BYTES, begins_name, is_digit, is_name_byte, is_number, is_white, is_word,
 };

@@ -1,10 +1,11 @@
 // A script: phases of statements, each of a session.
+use crate::session_name::SessionName;
 use hv_row::{Bytes, Listed};
 
 /// A statement: its session, its number there from 1, its text, and the data lines that it takes.
 #[derive(Debug, Drop)]
 pub struct Statement {
-    pub session: Bytes,
+    pub session: SessionName,
     pub number: u32,
     pub text: Bytes,
     pub lines: Bytes,

@@ -6,8 +6,8 @@ ghost use Rattle.hv_script.specs.Fault.{IsFaultOf, TellsAt};
 
 use crate::fault::BytesFault;
 use crate::statement::{Next, find_next};
-use hv_model::{FaultName, Phase, Script, ScriptFault, Statement};
-use hv_row::{Bytes, Listed};
+use hv_model::{FaultName, Phase, Script, ScriptFault, SessionName, Statement};
+use hv_row::{Bytes, Copied, Listed};
 use std::alloc::{AllocError, Global};
 
 /// The most bytes of a script.
@@ -22,6 +22,7 @@ pub fn read_statements(alloc: Global, bytes: &[u8]) -> Result<Script, BytesFault
     ensures fault { IfErr result (λ fault. IsFaultOf bytes.now fault) }
 {
     test_bytes(bytes)?;
+    let session = SessionName::new(alloc, owned(alloc, b"main")?)?;
     let mut statements: Phase = Listed::new(alloc);
     let mut number = 1;
     let mut rest = bytes;
@@ -40,7 +41,7 @@ pub fn read_statements(alloc: Global, bytes: &[u8]) -> Result<Script, BytesFault
                 if statements.len() == MAX_STATEMENTS {
                     return Err(fault_at(FaultName::TooManyStatements, bytes, from));
                 }
-                statements.push(main_statement(alloc, number, text, lines)?)?;
+                statements.push(main_statement(alloc, &session, number, text, lines)?)?;
                 number += 1;
                 rest = after;
             }
@@ -83,17 +84,19 @@ fn fault_at(name: FaultName, bytes: &[u8], rest: &[u8]) -> BytesFault
     told(name, bytes.len() - rest.len())
 }
 
-// A statement of the session `main`.
+// A statement of the session `main`, whose name it shares.
 fn main_statement(
     alloc: Global,
+    session: &SessionName,
     number: u32,
     text: &[u8],
     lines: &[u8],
 ) -> Result<Statement, AllocError>
+    requires { session.now ≡ codes "main" }
     ensures { IfOk result (λ x. x ≡ record { session = codes "main"; number = number; text = text.now; lines = lines.now }) }
 {
     Ok(Statement {
-        session: owned(alloc, b"main")?,
+        session: session.copy(alloc)?,
         number,
         text: owned(alloc, text)?,
         lines: owned(alloc, lines)?,
