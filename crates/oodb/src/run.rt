@@ -87,7 +87,10 @@ fn run_script<S: Source, K: Sink, D: Device>(
 {
     match read_script(alloc, source) {
         Ok(script) => report(alloc, &script, out, dev),
-        Err(ReadScriptFault::Found(fault)) => written_status(put_fault_line(out, fault), Status::Script),
+        Err(ReadScriptFault::Found(fault)) => written_status(
+            put_fault_line(out, fault),
+            Status::Script,
+        ),
         Err(ReadScriptFault::Source) => Status::SourceFault,
         Err(ReadScriptFault::Memory) => Status::Memory,
     }
