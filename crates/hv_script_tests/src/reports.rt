@@ -1,6 +1,8 @@
 // Reports that the tests are about, and their bytes.
 use hv_io::MemSink;
-use hv_model::{Cell, Detail, Entries, Entry, Failure, OutRow, OutRows, Replies, Reply};
+use hv_model::{
+    Cell, Detail, Entries, Entry, Failure, OutRow, OutRows, Replies, Reply, SessionName,
+};
 use hv_report::{Report, SessionReport, SessionReports, Stats, write_report};
 use hv_row::Bytes;
 use std::alloc::{AllocError, Global};
@@ -79,7 +81,7 @@ fn replies(alloc: Global) -> Result<Replies, AllocError> {
 
 fn entry(alloc: Global, session: &[u8], number: u32, what: Detail) -> Result<Entry, AllocError> {
     Ok(Entry {
-        session: Bytes::from_slice(alloc, session)?,
+        session: SessionName::new(alloc, Bytes::from_slice(alloc, session)?)?,
         number,
         what,
     })
