@@ -12,6 +12,7 @@ use Rattle.hv_model.specs.declared.lexeme.Keyword.{Keyword}
 use Rattle.hv_model.specs.declared.lexeme.Keyword.TheVariants as k
 use Rattle.hv_model.specs.declared.lexeme.Symbol.{Symbol}
 use Rattle.hv_model.specs.declared.lexeme.Symbol.TheVariants as s
+use Rattle.hv_model.specs.declared.lexeme.Kind.TheVariants as kinds
 use Rattle.hv_model.specs.declared.tree.Word.{Word}
 use Rattle.hv_model.specs.declared.tree.Numeral.{Numeral}
 use Rattle.hv_model.specs.declared.tree.Ast.{Ast}
@@ -28,7 +29,7 @@ use Rattle.hv_model.specs.declared.tree.OperandAst.{OperandAst}
 use Rattle.hv_model.specs.declared.tree.OperandAst.TheVariants as operand_ast
 use Rattle.hv_model.specs.declared.tree.CondAst.{CondAst}
 use Rattle.hv_model.specs.declared.tree.CondAst.TheVariants as c
-use Rattle.hv_model.specs.Terminals.{name_kind, number_kind, keyword_kind, symbol_kind, is_keyword, is_symbol, is_word, is_number, is_text, is_comparison}
+use Rattle.hv_model.specs.Terminals.{is_keyword, is_symbol, is_word, is_number, is_text, is_comparison}
 use Rattle.hv_model.specs.Sql.{most_number, most_behind, is_aggregate, list_or_one}
 use Rattle.hv_model.specs.Reading.{Reader, to_end, ◌>>=◌, ◌>>◌, gives_at, one_at, choose, optional_at, given_at, list_of_at, list_of_up_to_at}
 
@@ -64,11 +65,11 @@ cmp_at = one_at is_comparison
 
 -- where the next lexeme is this keyword, the first reader, else the second
 abbrev pub on_keyword : {A : Type 0} → Keyword → Reader A → Reader A → Reader A
-on_keyword k = choose (keyword_kind k)
+on_keyword k = choose (kinds.Keyword k)
 
 -- the same of a symbol
 abbrev pub on_symbol : {A : Type 0} → Symbol → Reader A → Reader A → Reader A
-on_symbol s = choose (symbol_kind s)
+on_symbol s = choose (kinds.Symbol s)
 
 -- ---- rules
 
@@ -81,8 +82,8 @@ unfoldable pub column_at : Reader Column
 column_at = do
   w ← name_at
   t ← column_type_at
-  i ← given_at (keyword_kind k.Index) (keyword_at k.Index)
-  r ← given_at (keyword_kind k.Range) (keyword_at k.Range)
+  i ← given_at (kinds.Keyword k.Index) (keyword_at k.Index)
+  r ← given_at (kinds.Keyword k.Range) (keyword_at k.Range)
   gives_at (record { name = w.name; kind = t; index = i; range = r })
 
 -- CREATE TABLE name ( column { , column } )
@@ -92,7 +93,7 @@ create_at = do
   keyword_at k.Table
   table ← name_at
   symbol_at s.Open
-  columns ← list_of_at (symbol_kind s.Comma) (symbol_at s.Comma) column_at
+  columns ← list_of_at (kinds.Symbol s.Comma) (symbol_at s.Comma) column_at
   symbol_at s.Close
   gives_at (ast.Create table columns)
 
@@ -129,7 +130,7 @@ merge_at = do
   keyword_at k.Chunks
   first ← part_at
   symbol_at s.Comma
-  others ← list_of_at (symbol_kind s.Comma) (symbol_at s.Comma) part_at
+  others ← list_of_at (kinds.Symbol s.Comma) (symbol_at s.Comma) part_at
   keyword_at k.Of
   table ← name_at
   gives_at (ast.Merge (first ∷ others) table)
@@ -201,11 +202,11 @@ star_at = do
 
 -- * | item { , item }, of at most 128 items
 unfoldable pub items_at : Reader (List ItemAst)
-items_at = on_symbol s.Star star_at (list_of_up_to_at most_behind (symbol_kind s.Comma) (symbol_at s.Comma) item_at)
+items_at = on_symbol s.Star star_at (list_of_up_to_at most_behind (kinds.Symbol s.Comma) (symbol_at s.Comma) item_at)
 
 -- [ [ AS ] name ]
 unfoldable pub alias_at : Reader (Option Word)
-alias_at = on_keyword k.As (do keyword_at k.As; w ← name_at; gives_at (Some w)) (optional_at name_kind name_at)
+alias_at = on_keyword k.As (do keyword_at k.As; w ← name_at; gives_at (Some w)) (optional_at kinds.Name name_at)
 
 -- name [ [ AS ] name ]
 unfoldable pub place_at : Reader PlaceAst
@@ -219,7 +220,7 @@ unfoldable pub places_at : Bool → Reader (List PlaceAst)
 places_at true = do
   p ← place_at
   gives_at (p ∷ [])
-places_at false = list_of_at (symbol_kind s.Comma) (symbol_at s.Comma) place_at
+places_at false = list_of_at (kinds.Symbol s.Comma) (symbol_at s.Comma) place_at
 
 -- [ - ] number within the range of 64-bit numbers
 unfoldable pub negative_at : Reader OperandAst
@@ -231,8 +232,8 @@ negative_at = do
 -- ref | [ - ] number | text
 unfoldable pub operand_at : Reader OperandAst
 operand_at =
-    choose name_kind (do r ← ref_at; gives_at (operand_ast.Col r))
-    (choose number_kind (do n ← number_at; gives_at (operand_ast.Lit (Int (pos n.value))))
+    choose kinds.Name (do r ← ref_at; gives_at (operand_ast.Col r))
+    (choose kinds.Number (do n ← number_at; gives_at (operand_ast.Lit (Int (pos n.value))))
     (on_symbol s.Minus negative_at
     (do t ← text_at; gives_at (operand_ast.Lit (Text t)))))
 
@@ -247,13 +248,13 @@ test_at = do
 -- term { AND term }, over these terms
 unfoldable pub conj_at : Reader CondAst → Reader CondAst
 conj_at term = do
-  xs ← list_of_at (keyword_kind k.And) (keyword_at k.And) term
+  xs ← list_of_at (kinds.Keyword k.And) (keyword_at k.And) term
   gives_at (list_or_one c.All xs)
 
 -- conj { OR conj }
 unfoldable pub cond_at : Reader CondAst → Reader CondAst
 cond_at term = do
-  xs ← list_of_at (keyword_kind k.Or) (keyword_at k.Or) (conj_at term)
+  xs ← list_of_at (kinds.Keyword k.Or) (keyword_at k.Or) (conj_at term)
   gives_at (list_or_one c.Any xs)
 
 -- NOT term
@@ -286,7 +287,7 @@ where_part_at = on_keyword k.Where (do keyword_at k.Where; x ← cond_at (term_a
 
 -- [ GROUP BY ref { , ref } ], of at most 128
 unfoldable pub group_part_at : Reader (List RefAst)
-group_part_at = on_keyword k.Group (do keyword_at k.Group; keyword_at k.By; xs ← list_of_up_to_at most_behind (symbol_kind s.Comma) (symbol_at s.Comma) ref_at; gives_at xs) (gives_at [])
+group_part_at = on_keyword k.Group (do keyword_at k.Group; keyword_at k.By; xs ← list_of_up_to_at most_behind (kinds.Symbol s.Comma) (symbol_at s.Comma) ref_at; gives_at xs) (gives_at [])
 
 -- GROUP BY may stand behind one place alone
 unfoldable pub groups_of_at : List PlaceAst → Reader (List RefAst)
@@ -295,11 +296,11 @@ groups_of_at _ = gives_at []
 
 -- the byte of a reference is its key's
 unfoldable pub key_by_at : Reader (KeyBy × ℕ)
-key_by_at = choose number_kind (do n ← number_at; gives_at (by.Number n.value, n.byte)) (do r ← ref_at; gives_at (by.Col r, r.byte))
+key_by_at = choose kinds.Number (do n ← number_at; gives_at (by.Number n.value, n.byte)) (do r ← ref_at; gives_at (by.Col r, r.byte))
 
 -- [ ASC | DESC ], whether it is DESC
 unfoldable pub direction_at : Reader Bool
-direction_at = on_keyword k.Asc (do keyword_at k.Asc; gives_at false) (given_at (keyword_kind k.Desc) (keyword_at k.Desc))
+direction_at = on_keyword k.Asc (do keyword_at k.Asc; gives_at false) (given_at (kinds.Keyword k.Desc) (keyword_at k.Desc))
 
 -- ( number | ref ) [ ASC | DESC ]
 unfoldable pub key_at : Reader KeyAst
@@ -310,13 +311,13 @@ key_at = do
 
 -- [ LIMIT number ]
 unfoldable pub limit_part_at : Reader (Option ℕ)
-limit_part_at = optional_at (keyword_kind k.Limit) (do keyword_at k.Limit; n ← number_at; gives_at n.value)
+limit_part_at = optional_at (kinds.Keyword k.Limit) (do keyword_at k.Limit; n ← number_at; gives_at n.value)
 
 -- [ ORDER BY key { , key } [ LIMIT number ] ], of at most 128 keys
 unfoldable pub order_part_at : Reader (List KeyAst × Option ℕ)
 order_part_at =
     on_keyword k.Order
-    (do keyword_at k.Order; keyword_at k.By; keys ← list_of_up_to_at most_behind (symbol_kind s.Comma) (symbol_at s.Comma) key_at; limit ← limit_part_at; gives_at (keys, limit))
+    (do keyword_at k.Order; keyword_at k.By; keys ← list_of_up_to_at most_behind (kinds.Symbol s.Comma) (symbol_at s.Comma) key_at; limit ← limit_part_at; gives_at (keys, limit))
     (gives_at ([], None))
 
 -- SELECT ( * | item { , item } ) FROM place { , place } [ WHERE cond ] [ GROUP BY ref { , ref } ] [ ORDER BY key { , key } [ LIMIT number ] ]

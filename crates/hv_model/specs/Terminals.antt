@@ -1,99 +1,46 @@
 -- The terminals of the grammar: tests of one lexeme. This project's own, after the lexical elements of ISO/IEC 9075.
-use Rattle.std.specs.Prelude.{◌≡◌, ◌≤◌, ℕ, Bool, true, false, ◌==◌, ◌^◌, nat_le, nat_lt, List, [], ◌∷◌, Option, Some, None, if◌then◌else◌}
+use Rattle.std.specs.Prelude.{◌≡◌, ◌↔◌, ℕ, Bool, true, false, IsTrue, ◌^◌, nat_le, nat_lt, List, [], ◌∷◌, Option, Some, None, if◌then◌else◌}
 use Rattle.std.specs.Str.{is_utf8}
 use Rattle.std.specs.Option.{option_map}
+use denote.Enum.Bare.{sameb}
 use Rattle.hv_model.specs.Token.{is_name}
 use Rattle.hv_model.specs.declared.lexeme.Lexeme.{Lexeme}
 use Rattle.hv_model.specs.declared.lexeme.What.{What}
 use Rattle.hv_model.specs.declared.lexeme.What.TheVariants as what
 use Rattle.hv_model.specs.declared.lexeme.Keyword.{Keyword}
-use Rattle.hv_model.specs.declared.lexeme.Keyword.TheVariants as k
 use Rattle.hv_model.specs.declared.lexeme.Symbol.{Symbol}
 use Rattle.hv_model.specs.declared.lexeme.Symbol.TheVariants as s
+use Rattle.hv_model.specs.contracts.lexeme.Keyword as keyword_type
+use Rattle.hv_model.specs.contracts.lexeme.Symbol as symbol_type
+use Rattle.hv_model.specs.declared.lexeme.Kind.{Kind}
+use Rattle.hv_model.specs.declared.lexeme.Kind.TheVariants as kinds
 use Rattle.hv_model.specs.declared.tree.Word.{Word}
 use Rattle.hv_model.specs.declared.tree.Numeral.{Numeral}
 use Rattle.hv_model.specs.declared.tree.Cmp.{Cmp}
 use Rattle.hv_model.specs.declared.tree.Cmp.TheVariants as c
 
--- each symbol has a number of its kind
-abbrev pub symbol_kind : Symbol → ℕ
-symbol_kind s.Open = 4
-symbol_kind s.Close = 5
-symbol_kind s.Comma = 6
-symbol_kind s.Dot = 7
-symbol_kind s.Star = 8
-symbol_kind s.Minus = 9
-symbol_kind s.Equal = 10
-symbol_kind s.Unequal = 11
-symbol_kind s.NotEqual = 12
-symbol_kind s.Less = 13
-symbol_kind s.AtMost = 14
-symbol_kind s.Greater = 15
-symbol_kind s.AtLeast = 16
-
--- each keyword has a number of its kind
-abbrev pub keyword_kind : Keyword → ℕ
-keyword_kind k.And = 20
-keyword_kind k.As = 21
-keyword_kind k.Asc = 22
-keyword_kind k.Barrier = 23
-keyword_kind k.By = 24
-keyword_kind k.Chunk = 25
-keyword_kind k.Chunks = 26
-keyword_kind k.Count = 27
-keyword_kind k.Create = 28
-keyword_kind k.Desc = 29
-keyword_kind k.From = 30
-keyword_kind k.Group = 31
-keyword_kind k.Import = 32
-keyword_kind k.Index = 33
-keyword_kind k.Int = 34
-keyword_kind k.Into = 35
-keyword_kind k.Is = 36
-keyword_kind k.Limit = 37
-keyword_kind k.Lines = 38
-keyword_kind k.Max = 39
-keyword_kind k.Merge = 40
-keyword_kind k.Min = 41
-keyword_kind k.Not = 42
-keyword_kind k.Null = 43
-keyword_kind k.Of = 44
-keyword_kind k.Or = 45
-keyword_kind k.Order = 46
-keyword_kind k.Purge = 47
-keyword_kind k.Range = 48
-keyword_kind k.Select = 49
-keyword_kind k.Session = 50
-keyword_kind k.Sum = 51
-keyword_kind k.Summary = 52
-keyword_kind k.Table = 53
-keyword_kind k.Text = 54
-keyword_kind k.Where = 55
-
--- names' kind
-abbrev pub name_kind : ℕ
-name_kind = 0
-
--- numbers' kind
-abbrev pub number_kind : ℕ
-number_kind = 1
-
--- texts' kind
-abbrev pub text_kind : ℕ
-text_kind = 2
-
--- the number of a lexeme's kind: names, numbers, texts, what no statement has, symbols and keywords
-abbrev pub kind_of : What → ℕ
-kind_of (what.Name _) = name_kind
-kind_of (what.Number _) = number_kind
-kind_of (what.Text _) = text_kind
-kind_of what.Other = 3
-kind_of (what.Symbol s) = symbol_kind s
-kind_of (what.Keyword k) = keyword_kind k
+-- what a lexeme is, whatever a name's or a text's bytes and a number's value
+abbrev pub kind_of : What → Kind
+kind_of (what.Name _) = kinds.Name
+kind_of (what.Number _) = kinds.Number
+kind_of (what.Text _) = kinds.Text
+kind_of (what.Symbol s) = kinds.Symbol s
+kind_of (what.Keyword k) = kinds.Keyword k
+kind_of what.Other = kinds.Other
 
 -- the kind of a lexeme, wherever it stands
-abbrev pub kind : Lexeme → ℕ
+abbrev pub kind : Lexeme → Kind
 kind t = kind_of t.what
+
+-- whether two kinds are one; of two symbols and of two keywords `==` says it
+abbrev pub same_kind : Kind → Kind → Bool
+same_kind kinds.Name kinds.Name = true
+same_kind kinds.Number kinds.Number = true
+same_kind kinds.Text kinds.Text = true
+same_kind kinds.Other kinds.Other = true
+same_kind (kinds.Symbol s) (kinds.Symbol r) = sameb symbol_type.the_type s r
+same_kind (kinds.Keyword k) (kinds.Keyword j) = sameb keyword_type.the_type k j
+same_kind _ _ = false
 
 -- whether a text may have this lexeme: a name is one token, a number's value is capped, a text is UTF-8
 abbrev pub may_be : What → Bool
@@ -110,16 +57,16 @@ whats [] = []
 whats (t ∷ ts) = t.what ∷ whats ts
 
 -- the byte of a lexeme of this kind
-abbrev pub of_kind : ℕ → Lexeme → Option ℕ
-of_kind n t = if kind t == n then Some t.byte else None
+abbrev pub of_kind : Kind → Lexeme → Option ℕ
+of_kind n t = if same_kind (kind t) n then Some t.byte else None
 
 -- the byte of this symbol
 abbrev pub is_symbol : Symbol → Lexeme → Option ℕ
-is_symbol s = of_kind (symbol_kind s)
+is_symbol s = of_kind (kinds.Symbol s)
 
 -- the byte of this keyword
 abbrev pub is_keyword : Keyword → Lexeme → Option ℕ
-is_keyword k = of_kind (keyword_kind k)
+is_keyword k = of_kind (kinds.Keyword k)
 
 -- a name as a word
 abbrev pub word_of : What → ℕ → Option Word
@@ -168,6 +115,11 @@ comparison_of _ byte = None
 abbrev pub is_comparison : Lexeme → Option (Cmp × ℕ)
 is_comparison t = comparison_of t.what t.byte
 
--- keywords and symbols are told apart by the numbers of their kinds
+-- two kinds are told to be one exactly where they are
+abbrev pub KindsCompared : Type 0
+KindsCompared = (a b : Kind) → IsTrue (same_kind a b) ↔ (a ≡ b)
+
+-- what is of a symbol's kind is that symbol, and what is of a keyword's kind that keyword
 abbrev pub KindsApart : Type 0
-KindsApart = (t u : What) → kind_of t ≡ kind_of u → 4 ≤ kind_of t → t ≡ u
+KindsApart =
+    ((w : What) (s : Symbol) → kind_of w ≡ kinds.Symbol s → w ≡ what.Symbol s) × ((w : What) (k : Keyword) → kind_of w ≡ kinds.Keyword k → w ≡ what.Keyword k)

@@ -101,6 +101,18 @@ pub enum Symbol {
     AtLeast,
 }
 
+/// The kind of a lexeme: what it is, whatever the bytes of a name or a text and the value of a number.
+#[derive(Debug, Clone, Copy, PartialEq, Eq)]
+pub enum Kind {
+    Name,
+    Number,
+    Text,
+    Symbol(Symbol),
+    Keyword(Keyword),
+    /// What no statement has.
+    Other,
+}
+
 /// What a lexeme is. No code builds one: the parser reads tokens, and definitions and contracts speak of lexemes.
 #[derive(Debug, Drop)]
 pub enum What {

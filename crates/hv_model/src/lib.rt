@@ -14,7 +14,7 @@ mod tree;
 pub use catalogue::{
     Chunk, Chunks, Command, Database, Detail, Entries, Entry, StepRefusal, Table, TableHead, Tables,
 };
-pub use lexeme::{Keyword, Lexeme, Sort, Symbol, Token, Tokens, What};
+pub use lexeme::{Keyword, Kind, Lexeme, Sort, Symbol, Token, Tokens, What};
 pub use query::{
     BoundQuery, Cell, ColRef, ColRefs, Combo, Combos, Cond, Item, Items, Operand, OutRow, OutRows,
     Places, PlainTables, SortKey, SortKeys,

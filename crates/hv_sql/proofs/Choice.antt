@@ -1,13 +1,15 @@
 -- One of two grammars keeps the laws.
-use Rattle.std.proofs.Common.{◌≡◌, ◌⊎◌, ℕ, Bool, true, false, List, [], ◌∷◌, ◌++◌, refl, sym, ◌∙◌, ap, subst, inl, inr}
-use Rattle.std.specs.Prelude.{◌==◌, Option, Some, None, Ok, Err, if◌then◌else◌}
-use Rattle.std.proofs.lemmas.Bool.{cases_Bool, eqb-true, both_ways, false≢true, or_from, or_cases, or_parts}
+use Rattle.std.proofs.Common.{◌≡◌, ◌⊎◌, Bool, true, false, List, [], ◌∷◌, ◌++◌, refl, sym, ◌∙◌, ap, subst, inl, inr}
+use Rattle.std.specs.Prelude.{Option, Some, None, Ok, Err, if◌then◌else◌}
+use Rattle.std.proofs.lemmas.Bool.{cases_Bool, both_ways, false≢true, or_from, or_cases, or_parts}
 use Rattle.hv_model.specs.declared.lexeme.Lexeme.{Lexeme}
 use Rattle.hv_model.specs.declared.lexeme.What.{What}
-use Rattle.hv_model.specs.Terminals.{kind}
+use Rattle.hv_model.specs.declared.lexeme.Kind.{Kind}
+use Rattle.hv_model.specs.Terminals.{kind, same_kind}
 use Rattle.hv_model.specs.Grammar as g
 use Rattle.hv_model.specs.Grammar.{Grammar, ◌or◌, gives, one, more}
 use Rattle.hv_model.specs.Reading.{Reader, on_read, ◌>>=◌, gives_at, read_one, one_at, choose}
+use Rattle.hv_sql.proofs.KindLaws.{same_one}
 use Rattle.hv_sql.proofs.KindSets.{member, joined, when, Avoids, Begins, member-joined_left, member-joined_right, Within-Avoids, Within-Begins}
 use Rattle.hv_sql.proofs.Lawful.{Took, Failed, Lawful, LawfulBy, head_is, ok_no_err, fault_is}
 
@@ -44,47 +46,47 @@ failed_as {at = at} failed more agrees = record {
   same = λ t us after e. agrees t us after (failed.is ∙ ap (λ z. failed.front ++ z) e) ∙ failed.same t us after e;
 }
 
-module _ {A : Type 0} (n : ℕ) (p q : Reader A) where
-  pub chosen_first : (t : Lexeme) (ts : List Lexeme) → (kind t == n) ≡ true → choose n p q (t ∷ ts) ≡ p (t ∷ ts)
+module _ {A : Type 0} (n : Kind) (p q : Reader A) where
+  pub chosen_first : (t : Lexeme) (ts : List Lexeme) → (same_kind (kind t) n) ≡ true → choose n p q (t ∷ ts) ≡ p (t ∷ ts)
   chosen_first t ts e = ap (λ z. if z then p (t ∷ ts) else q (t ∷ ts)) e
 
-  pub chosen_second : (t : Lexeme) (ts : List Lexeme) → (kind t == n) ≡ false → choose n p q (t ∷ ts) ≡ q (t ∷ ts)
+  pub chosen_second : (t : Lexeme) (ts : List Lexeme) → (same_kind (kind t) n) ≡ false → choose n p q (t ∷ ts) ≡ q (t ∷ ts)
   chosen_second t ts e = ap (λ z. if z then p (t ∷ ts) else q (t ∷ ts)) e
 
-  pub first_again : (s : Lexeme) (ss front : List Lexeme) (t : Lexeme) (us after : List Lexeme) → (kind s == n) ≡ true → s ∷ ss ≡ front ++ t ∷ us
+  pub first_again : (s : Lexeme) (ss front : List Lexeme) (t : Lexeme) (us after : List Lexeme) → (same_kind (kind s) n) ≡ true → s ∷ ss ≡ front ++ t ∷ us
       → choose n p q (front ++ t ∷ after) ≡ p (front ++ t ∷ after)
-  first_again s ss [] t us after k e = chosen_first t after (subst (λ z. (kind z == n) ≡ true) (head_is s t ss us e) k)
-  first_again s ss (f ∷ fs) t us after k e = chosen_first f (fs ++ t ∷ after) (subst (λ z. (kind z == n) ≡ true) (head_is s f ss (fs ++ t ∷ us) e) k)
+  first_again s ss [] t us after k e = chosen_first t after (subst (λ z. (same_kind (kind z) n) ≡ true) (head_is s t ss us e) k)
+  first_again s ss (f ∷ fs) t us after k e = chosen_first f (fs ++ t ∷ after) (subst (λ z. (same_kind (kind z) n) ≡ true) (head_is s f ss (fs ++ t ∷ us) e) k)
 
-  pub second_again : (s : Lexeme) (ss front : List Lexeme) (t : Lexeme) (us after : List Lexeme) → (kind s == n) ≡ false → s ∷ ss ≡ front ++ t ∷ us
+  pub second_again : (s : Lexeme) (ss front : List Lexeme) (t : Lexeme) (us after : List Lexeme) → (same_kind (kind s) n) ≡ false → s ∷ ss ≡ front ++ t ∷ us
       → choose n p q (front ++ t ∷ after) ≡ q (front ++ t ∷ after)
-  second_again s ss [] t us after k e = chosen_second t after (subst (λ z. (kind z == n) ≡ false) (head_is s t ss us e) k)
-  second_again s ss (f ∷ fs) t us after k e = chosen_second f (fs ++ t ∷ after) (subst (λ z. (kind z == n) ≡ false) (head_is s f ss (fs ++ t ∷ us) e) k)
+  second_again s ss [] t us after k e = chosen_second t after (subst (λ z. (same_kind (kind z) n) ≡ false) (head_is s t ss us e) k)
+  second_again s ss (f ∷ fs) t us after k e = chosen_second f (fs ++ t ∷ after) (subst (λ z. (same_kind (kind z) n) ≡ false) (head_is s f ss (fs ++ t ∷ us) e) k)
 
   pub takes_first : (lexemes : List Lexeme) → Begins (n ∷ []) lexemes → choose n p q lexemes ≡ p lexemes
   takes_first [] b = absurd b
-  takes_first (t ∷ ts) b = chosen_first t ts (elim (or_cases (kind t == n) false b) [
+  takes_first (t ∷ ts) b = chosen_first t ts (elim (or_cases (same_kind (kind t) n) false b) [
     | inl e ↦ e
     | inr e ↦ absurd cc
   ])
 
   pub takes_second : (lexemes : List Lexeme) → Avoids (n ∷ []) lexemes → choose n p q lexemes ≡ q lexemes
   takes_second [] b = refl
-  takes_second (t ∷ ts) b = chosen_second t ts (or_parts (kind t == n) false b).0
+  takes_second (t ∷ ts) b = chosen_second t ts (or_parts (same_kind (kind t) n) false b).0
 
-  pub begins_other : (heads' : List ℕ) → member n heads' ≡ false → (lexemes : List Lexeme) → Begins heads' lexemes → Avoids (n ∷ []) lexemes
+  pub begins_other : (heads' : List Kind) → member n heads' ≡ false → (lexemes : List Lexeme) → Begins heads' lexemes → Avoids (n ∷ []) lexemes
   begins_other heads' h [] b = absurd b
-  begins_other heads' h (t ∷ ts) b = or_from (kind t == n) false (elim (cases_Bool (kind t == n)) [
-    | inl e ↦ absurd (both_ways _ h (subst (λ z. member z heads' ≡ true) (eqb-true (kind t) n e) b))
+  begins_other heads' h (t ∷ ts) b = or_from (same_kind (kind t) n) false (elim (cases_Bool (same_kind (kind t) n)) [
+    | inl e ↦ absurd (both_ways _ h (subst (λ z. member z heads' ≡ true) (same_one (kind t) n e) b))
     | inr e ↦ e
   ]) refl
 
-  module _ {good : What → Bool} {R S : Grammar A} {bars bars' heads' : List ℕ} {empty' : Bool} {word word' : List What} (l : Lawful bars (n ∷ []) false word R p) (m : LawfulBy good bars' heads' empty' word' S q) where
+  module _ {good : What → Bool} {R S : Grammar A} {bars bars' heads' : List Kind} {empty' : Bool} {word word' : List What} (l : Lawful bars (n ∷ []) false word R p) (m : LawfulBy good bars' heads' empty' word' S q) where
     pub choose_reads : (lexemes rest : List Lexeme) (a : A) → choose n p q lexemes ≡ Ok (a, rest) → Took (R or S) (choose n p q) lexemes rest a
     choose_reads [] rest a e =
         let took = m.reads [] rest a e in
         took_as took (λ us vs b s. inr s) (λ t us after f. absurd (no_front took.front t us f))
-    choose_reads (s ∷ ss) rest a e = elim (cases_Bool (kind s == n)) [
+    choose_reads (s ∷ ss) rest a e = elim (cases_Bool (same_kind (kind s) n)) [
       | inl k ↦ took_as (l.reads (s ∷ ss) rest a (sym (chosen_first s ss k) ∙ e)) (λ us vs b r. inl r)
           (λ t us after f. first_again s ss (l.reads (s ∷ ss) rest a (sym (chosen_first s ss k) ∙ e)).front t us after k f)
       | inr k ↦ took_as (m.reads (s ∷ ss) rest a (sym (chosen_second s ss k) ∙ e)) (λ us vs b r. inr r)
@@ -118,12 +120,12 @@ module _ {A : Type 0} (n : ℕ) (p q : Reader A) where
             (λ k e. member-joined_left k (n ∷ []) (joined bars bars') e)
             (subst (λ z. Avoids (joined (when z (n ∷ [])) (joined bars bars')) rest) b.1 s))
 
-  module _ {R S : Grammar A} {bars bars' heads' : List ℕ} {empty' : Bool} {word word' : List What} (l : Lawful bars (n ∷ []) false word R p) (m : Lawful bars' heads' empty' word' S q) where
+  module _ {R S : Grammar A} {bars bars' heads' : List Kind} {empty' : Bool} {word word' : List What} (l : Lawful bars (n ∷ []) false word R p) (m : Lawful bars' heads' empty' word' S q) where
     pub choose_fails : (lexemes at : List Lexeme) → choose n p q lexemes ≡ Err at → Failed (R or S) (choose n p q) lexemes at
     choose_fails [] at e =
         let failed = m.fails [] at e in
         failed_as failed (λ us vs b s. inr s) (λ t us after f. absurd (no_front failed.front t us f))
-    choose_fails (s ∷ ss) at e = elim (cases_Bool (kind s == n)) [
+    choose_fails (s ∷ ss) at e = elim (cases_Bool (same_kind (kind s) n)) [
       | inl k ↦ failed_as (l.fails (s ∷ ss) at (sym (chosen_first s ss k) ∙ e)) (λ us vs b r. inl r)
           (λ t us after f. first_again s ss (l.fails (s ∷ ss) at (sym (chosen_first s ss k) ∙ e)).front t us after k f)
       | inr k ↦ failed_as (m.fails (s ∷ ss) at (sym (chosen_second s ss k) ∙ e)) (λ us vs b r. inr r)
@@ -143,7 +145,7 @@ module _ {A : Type 0} (n : ℕ) (p q : Reader A) where
           (found.0, λ after. inr (found.1 after));
     }
 
-pub either : {A : Type 0} {R S : Grammar A} {n : ℕ} {p q : Reader A} {bars bars' heads' : List ℕ} {empty' : Bool} {word word' : List What} → Lawful bars (n ∷ []) false word R p → Lawful bars' heads' empty' word' S q
+pub either : {A : Type 0} {R S : Grammar A} {n : Kind} {p q : Reader A} {bars bars' heads' : List Kind} {empty' : Bool} {word word' : List What} → Lawful bars (n ∷ []) false word R p → Lawful bars' heads' empty' word' S q
     → member n heads' ≡ false → Lawful (joined (when empty' (n ∷ [])) (joined bars bars')) (n ∷ heads') empty' word' (R or S) (choose n p q)
 either {n = n} {p = p} {q = q} l m h = choose_lawful n p q l m h
 
@@ -164,7 +166,7 @@ module _ {A B : Type 0} (test : Lexeme → Option B) (of : B → A) where
   value_same : (t : Lexeme) (after : List Lexeme) → test t ≡ None → valued_at (t ∷ after) ≡ Err (t ∷ after)
   value_same t after e = ap (λ z. on_read (λ b. gives_at (of b)) (read_one z (t ∷ after) after)) e
 
-  module _ {n : ℕ} {p : Reader A} {R : Grammar A} {bars : List ℕ} {word : List What} (l : Lawful bars (n ∷ []) false word R p) where
+  module _ {n : Kind} {p : Reader A} {R : Grammar A} {bars : List Kind} {word : List What} (l : Lawful bars (n ∷ []) false word R p) where
     -- a fault at once, completed by the first
     at_once : (lexemes at : List Lexeme) → lexemes ≡ at → ((t : Lexeme) (us after : List Lexeme) → lexemes ≡ t ∷ us → choose n p valued_at (t ∷ after) ≡ Err (t ∷ after))
         → Failed (R or valued) (choose n p valued_at) lexemes at
@@ -181,17 +183,17 @@ module _ {A B : Type 0} (test : Lexeme → Option B) (of : B → A) where
 
     value_fails : (lexemes at : List Lexeme) → choose n p valued_at lexemes ≡ Err at → Failed (R or valued) (choose n p valued_at) lexemes at
     value_fails [] at e = at_once [] at (fault_is {A = A} [] at e) (λ t us after f. absurd (no_front [] t us f))
-    value_fails (s ∷ ss) at e = elim (cases_Bool (kind s == n)) [
+    value_fails (s ∷ ss) at e = elim (cases_Bool (same_kind (kind s) n)) [
       | inl k ↦ failed_as (l.fails (s ∷ ss) at (sym (chosen_first n p valued_at s ss k) ∙ e)) (λ us vs b r. inl r)
           (λ t us after f. first_again n p valued_at s ss (l.fails (s ∷ ss) at (sym (chosen_first n p valued_at s ss k) ∙ e)).front t us after k f)
       | inr k ↦
           let both = value_none (test s) (s ∷ ss) ss at (sym (chosen_second n p valued_at s ss k) ∙ e) in
           at_once (s ∷ ss) at both.1 (λ t us after f.
-          chosen_second n p valued_at t after (subst (λ z. (kind z == n) ≡ false) (head_is s t ss us f) k)
+          chosen_second n p valued_at t after (subst (λ z. (same_kind (kind z) n) ≡ false) (head_is s t ss us f) k)
           ∙ value_same t after (subst (λ z. test z ≡ None) (head_is s t ss us f) both.0))
     ]
 
-    pub either_one : {good : What → Bool} {bars' heads' : List ℕ} {empty' : Bool} {word' : List What} → LawfulBy good bars' heads' empty' word' valued valued_at → member n heads' ≡ false
+    pub either_one : {good : What → Bool} {bars' heads' : List Kind} {empty' : Bool} {word' : List What} → LawfulBy good bars' heads' empty' word' valued valued_at → member n heads' ≡ false
         → Lawful (joined (when empty' (n ∷ [])) (joined bars bars')) (n ∷ heads') empty' word (R or valued) (choose n p valued_at)
     either_one m h = record {
       complete = choose_complete n p valued_at l m h;

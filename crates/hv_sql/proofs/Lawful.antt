@@ -4,6 +4,7 @@ use Rattle.std.specs.Prelude.{Option, Some, None, Ok, Err}
 use Rattle.std.specs.List.{list_all}
 use Rattle.hv_model.specs.declared.lexeme.Lexeme.{Lexeme}
 use Rattle.hv_model.specs.declared.lexeme.What.{What}
+use Rattle.hv_model.specs.declared.lexeme.Kind.{Kind}
 use Rattle.hv_model.specs.Terminals.{kind, whats}
 use Rattle.hv_sql.proofs.Plain.{is_plain}
 use Rattle.hv_model.specs.Grammar.{Grammar, gives, one}
@@ -59,7 +60,7 @@ pub record FailedBy {A : Type 0} (good : What → Bool) (R : Grammar A) (p : Rea
 
 -- what is read of R by p: an A unless one of `bars` follows; an A begins with one of `heads`, or is no lexeme where it may be empty;
 -- and lexemes that are `word`, wherever they stand, are an A; what completes a front passes a test
-pub record LawfulBy {A : Type 0} (good : What → Bool) (bars heads : List ℕ) (empty : Bool) (word : List What) (R : Grammar A) (p : Reader A) : Type 0 where
+pub record LawfulBy {A : Type 0} (good : What → Bool) (bars heads : List Kind) (empty : Bool) (word : List What) (R : Grammar A) (p : Reader A) : Type 0 where
   pub complete : (lexemes rest : List Lexeme) (a : A) → R lexemes rest a → Avoids bars rest → p lexemes ≡ Ok (a, rest)
   pub starts : (lexemes rest : List Lexeme) (a : A) → R lexemes rest a → Begins heads lexemes ⊎ ((lexemes ≡ rest) × (empty ≡ true))
   pub reads : (lexemes rest : List Lexeme) (a : A) → p lexemes ≡ Ok (a, rest) → Took R p lexemes rest a
@@ -71,11 +72,11 @@ pub record LawfulBy {A : Type 0} (good : What → Bool) (bars heads : List ℕ) 
 abbrev pub Failed : {A : Type 0} → Grammar A → Reader A → List Lexeme → List Lexeme → Type 0
 Failed R p lexemes at = FailedBy is_plain R p lexemes at
 
-abbrev pub Lawful : {A : Type 0} → List ℕ → List ℕ → Bool → List What → Grammar A → Reader A → Type 0
+abbrev pub Lawful : {A : Type 0} → List Kind → List Kind → Bool → List What → Grammar A → Reader A → Type 0
 Lawful bars heads empty word R p = LawfulBy is_plain bars heads empty word R p
 
 -- more bars, more heads
-pub weaken : {A : Type 0} {bars heads bars' heads' : List ℕ} {empty empty' : Bool} {word : List What} {R : Grammar A} {p : Reader A}
+pub weaken : {A : Type 0} {bars heads bars' heads' : List Kind} {empty empty' : Bool} {word : List What} {R : Grammar A} {p : Reader A}
     → Lawful bars heads empty word R p → Within bars bars' → Within heads heads' → (empty ≡ true → empty' ≡ true) → Lawful bars' heads' empty' word R p
 weaken {A} {bars} {heads} {bars'} {heads'} l b h e = record {
   complete = λ lexemes rest a r s. l.complete lexemes rest a r (Within-Avoids bars bars' rest b s);
@@ -123,7 +124,7 @@ gives_lawful value = record {
 -- ---- one lexeme
 
 -- the kinds of which a test takes lexemes
-abbrev pub OfKinds : {A : Type 0} → List ℕ → (Lexeme → Option A) → Type 0
+abbrev pub OfKinds : {A : Type 0} → List Kind → (Lexeme → Option A) → Type 0
 OfKinds {A} heads test = (t : Lexeme) (a : A) → test t ≡ Some a → member (kind t) heads ≡ true
 
 pub read_some : {A : Type 0} (o : Option A) (a : A) (lexemes us rest : List Lexeme) → read_one o lexemes us ≡ Ok (a, rest) → (o ≡ Some a) × (us ≡ rest)
@@ -141,7 +142,7 @@ pub one_complete : {A : Type 0} (test : Lexeme → Option A) (lexemes rest : Lis
 one_complete test [] rest a r = absurd r
 one_complete test (t ∷ ts) rest a r = ap (λ z. read_one z (t ∷ ts) ts) r.0 ∙ ap (λ z. Ok (a, z)) r.1
 
-pub one_starts : {A : Type 0} (heads : List ℕ) (test : Lexeme → Option A) → OfKinds heads test → (lexemes rest : List Lexeme) (a : A) → one test lexemes rest a → Begins heads lexemes
+pub one_starts : {A : Type 0} (heads : List Kind) (test : Lexeme → Option A) → OfKinds heads test → (lexemes rest : List Lexeme) (a : A) → one test lexemes rest a → Begins heads lexemes
 one_starts heads test k [] rest a r = absurd r
 one_starts heads test k (t ∷ ts) rest a r = k t a r.0
 
@@ -195,7 +196,7 @@ one_fails {A} {good} test w holds real (s ∷ ss) at e =
     }
 
 -- a test of one lexeme, of these kinds, that w meets wherever it stands
-pub one_lawful : {A : Type 0} {good : What → Bool} (heads : List ℕ) (test : Lexeme → Option A) (w : What) → OfKinds heads test → Holds test w → list_all good (w ∷ []) ≡ true
+pub one_lawful : {A : Type 0} {good : What → Bool} (heads : List Kind) (test : Lexeme → Option A) (w : What) → OfKinds heads test → Holds test w → list_all good (w ∷ []) ≡ true
     → LawfulBy good [] heads false (w ∷ []) (one test) (one_at test)
 one_lawful heads test w k holds real = record {
   complete = λ lexemes rest a r s. one_complete test lexemes rest a r;

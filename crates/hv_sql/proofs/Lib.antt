@@ -1,5 +1,5 @@
 mod Plain
-mod KindNumbers
+mod KindLaws
 mod KindSets
 mod Lawful
 mod Sequence

@@ -1,11 +1,12 @@
 -- Lists, and what may be left out, keep the laws.
 use Rattle.std.proofs.Common.{◌≡◌, ℕ, zero, suc, ◌<◌, ◌≤◌, ◌+◌, Bool, true, false, not, ◌&&◌, ◌||◌, List, [], ◌∷◌, ◌++◌, length, refl, sym, ◌∙◌, ap, subst, inl, inr, append-nil, length-append, arith}
-use Rattle.std.specs.Prelude.{◌==◌, Some, None, Ok, Err, if◌then◌else◌}
+use Rattle.std.specs.Prelude.{Some, None, Ok, Err, if◌then◌else◌}
 use Rattle.std.proofs.lemmas.Bool.{both_ways, false≢true, or_left, or_right, or_cases}
 use Rattle.std.proofs.lemmas.List.{append_cancel_right}
 use Rattle.hv_model.specs.declared.lexeme.Lexeme.{Lexeme}
 use Rattle.hv_model.specs.declared.lexeme.What.{What}
-use Rattle.hv_model.specs.Terminals.{kind}
+use Rattle.hv_model.specs.declared.lexeme.Kind.{Kind}
+use Rattle.hv_model.specs.Terminals.{kind, same_kind}
 use Rattle.hv_model.specs.Grammar.{Grammar, More, optional, given, more_up_to, more, list_of, list_of_up_to}
 use Rattle.hv_model.specs.Reading.{Read, Reader, on_read, ◌>>=◌, gives_at, optional_at, given_at, more_up_to_at, more_at, list_of_at, list_of_up_to_at}
 use Rattle.hv_sql.proofs.KindSets.{member, joined, apart, within, Avoids, Begins, member-joined_left, member-joined_cases, within-member, Within}
@@ -15,24 +16,24 @@ use Rattle.hv_sql.proofs.Choice.{either}
 
 -- ---- { S R }
 
-pub apart-nil : (ns : List ℕ) → apart ns [] ≡ true
+pub apart-nil : (ns : List Kind) → apart ns [] ≡ true
 apart-nil [] = refl
 apart-nil (n ∷ ns) = apart-nil ns
 
-pub member_nil : (k : ℕ) → member k [] ≡ true → ⊥
+pub member_nil : (k : Kind) → member k [] ≡ true → ⊥
 member_nil k e = cc
 
-pub loop_bars : (n : ℕ) (bars : List ℕ) → Within (n ∷ joined (joined bars (n ∷ joined bars [])) []) (n ∷ bars)
-loop_bars n bars k h = elim (or_cases (k == n) (member k (joined (joined bars (n ∷ joined bars [])) [])) h) [
-  | inl e ↦ or_left (k == n) (member k bars) e
+pub loop_bars : (n : Kind) (bars : List Kind) → Within (n ∷ joined (joined bars (n ∷ joined bars [])) []) (n ∷ bars)
+loop_bars n bars k h = elim (or_cases (same_kind k n) (member k (joined (joined bars (n ∷ joined bars [])) [])) h) [
+  | inl e ↦ or_left (same_kind k n) (member k bars) e
   | inr e ↦ elim (member-joined_cases k (joined bars (n ∷ joined bars [])) [] e) [
     | inr f ↦ absurd (member_nil k f)
     | inl f ↦ elim (member-joined_cases k bars (n ∷ joined bars []) f) [
-      | inl u ↦ or_right (k == n) (member k bars) u
-      | inr u ↦ elim (or_cases (k == n) (member k (joined bars [])) u) [
-        | inl v ↦ or_left (k == n) (member k bars) v
+      | inl u ↦ or_right (same_kind k n) (member k bars) u
+      | inr u ↦ elim (or_cases (same_kind k n) (member k (joined bars [])) u) [
+        | inl v ↦ or_left (same_kind k n) (member k bars) v
         | inr v ↦ elim (member-joined_cases k bars [] v) [
-          | inl w ↦ or_right (k == n) (member k bars) w
+          | inl w ↦ or_right (same_kind k n) (member k bars) w
           | inr w ↦ absurd (member_nil k w)
         ]
       ]
@@ -40,7 +41,7 @@ loop_bars n bars k h = elim (or_cases (k == n) (member k (joined (joined bars (n
   ]
 ]
 
-module _ {A B : Type 0} {S : Grammar B} {R : Grammar A} {n : ℕ} {s : Reader B} {p : Reader A} {bars heads : List ℕ} {sign word : List What}
+module _ {A B : Type 0} {S : Grammar B} {R : Grammar A} {n : Kind} {s : Reader B} {p : Reader A} {bars heads : List Kind} {sign word : List What}
     (mark : Lawful [] (n ∷ []) false sign S s) (l : Lawful bars heads false word R p) (h : member n bars ≡ false) where
   pub more_up_to_lawful : (room : ℕ) → Lawful (n ∷ bars) (n ∷ []) true [] (more_up_to room S R) (more_up_to_at room n s p)
   more_up_to_lawful zero = weaken (gives_lawful []) (λ k e. absurd (member_nil k e)) (λ k e. absurd (member_nil k e)) (λ e. e)
@@ -55,11 +56,11 @@ kept_length {rest = rest} took =
     let n = ap length took.is in
     omega (arith, n, length-append took.front rest)
 
-pub front_some : (heads : List ℕ) (front : List Lexeme) → Begins heads (front ++ []) → 0 < length front
+pub front_some : (heads : List Kind) (front : List Lexeme) → Begins heads (front ++ []) → 0 < length front
 front_some heads [] b = absurd b
 front_some heads (t ∷ ts) b = omega arith
 
-pub lost_length : {A : Type 0} {R : Grammar A} {p : Reader A} {bars heads : List ℕ} {word : List What} {lexemes rest : List Lexeme} {a : A} → Lawful bars heads false word R p → Took R p lexemes rest a → length rest < length lexemes
+pub lost_length : {A : Type 0} {R : Grammar A} {p : Reader A} {bars heads : List Kind} {word : List What} {lexemes rest : List Lexeme} {a : A} → Lawful bars heads false word R p → Took R p lexemes rest a → length rest < length lexemes
 lost_length {heads = heads} {rest = rest} {a = a} l took =
     let some : 0 < length took.front = elim (l.starts (took.front ++ []) [] a (took.whole [])) [
       | inl b ↦ front_some heads took.front b
@@ -68,7 +69,7 @@ lost_length {heads = heads} {rest = rest} {a = a} l took =
     let n = ap length took.is in
     omega (arith, n, length-append took.front rest)
 
-module _ {A B : Type 0} {S : Grammar B} {R : Grammar A} {n : ℕ} {s : Reader B} {p : Reader A} {bars heads : List ℕ} {sign word : List What}
+module _ {A B : Type 0} {S : Grammar B} {R : Grammar A} {n : Kind} {s : Reader B} {p : Reader A} {bars heads : List Kind} {sign word : List What}
     (mark : Lawful [] (n ∷ []) false sign S s) (l : Lawful bars heads false word R p) (h : member n bars ≡ false) where
   -- more room than lexemes changes nothing
   room_enough : (room wide : ℕ) (lexemes : List Lexeme) → length lexemes ≤ room → length lexemes ≤ wide → more_up_to_at room n s p lexemes ≡ more_up_to_at wide n s p lexemes
@@ -79,7 +80,7 @@ module _ {A B : Type 0} {S : Grammar B} {R : Grammar A} {n : ℕ} {s : Reader B}
   room_enough (suc room) zero (t ∷ ts) f g = absurd (omega arith)
   room_enough (suc room) (suc wide) [] f g = refl
   room_enough (suc room) (suc wide) (t ∷ ts) f g =
-      ap (λ z. if kind t == n then z else Ok ([], t ∷ ts)) (go (s (t ∷ ts)) refl (λ us e. room_enough room wide us (omega arith) (omega arith)))
+      ap (λ z. if same_kind (kind t) n then z else Ok ([], t ∷ ts)) (go (s (t ∷ ts)) refl (λ us e. room_enough room wide us (omega arith) (omega arith)))
     where
       turn : ℕ → A → Reader (List A)
       turn r x = more_up_to_at r n s p >>= λ xs. gives_at (x ∷ xs)
@@ -183,7 +184,7 @@ module _ {A B : Type 0} {S : Grammar B} {R : Grammar A} {n : ℕ} {s : Reader B}
   }
 
 -- more bars, more heads, as tests
-pub fits : {A : Type 0} {bars heads bars' heads' : List ℕ} {empty empty' : Bool} {word : List What} {R : Grammar A} {p : Reader A}
+pub fits : {A : Type 0} {bars heads bars' heads' : List Kind} {empty empty' : Bool} {word : List What} {R : Grammar A} {p : Reader A}
     → Lawful bars heads empty word R p → within bars bars' ≡ true → within heads heads' ≡ true → (not empty || empty') ≡ true → Lawful bars' heads' empty' word R p
 fits {bars = bars} {heads = heads} {bars' = bars'} {heads' = heads'} {empty = empty} {empty' = empty'} l b h e =
     weaken l (λ k. within-member k bars bars' b) (λ k. within-member k heads heads' h) (λ f. elim (or_cases (not empty) empty' e) [
@@ -191,30 +192,30 @@ fits {bars = bars} {heads = heads} {bars' = bars'} {heads' = heads'} {empty = em
       | inr g ↦ g
     ])
 
-pub reword : {A : Type 0} {bars heads : List ℕ} {empty : Bool} {word word' : List What} {R : Grammar A} {p : Reader A} → Lawful bars heads empty word R p → word ≡ word' → Lawful bars heads empty word' R p
+pub reword : {A : Type 0} {bars heads : List Kind} {empty : Bool} {word word' : List What} {R : Grammar A} {p : Reader A} → Lawful bars heads empty word R p → word ≡ word' → Lawful bars heads empty word' R p
 reword {bars = bars} {heads = heads} {empty = empty} {R = R} {p = p} l e = subst (λ z. Lawful bars heads empty z R p) e l
 
 -- ---- [ R ]
 
-pub optional_lawful : {A : Type 0} {R : Grammar A} {n : ℕ} {p : Reader A} {word : List What} → Lawful [] (n ∷ []) false word R p → Lawful (n ∷ []) (n ∷ []) true [] (optional R) (optional_at n p)
+pub optional_lawful : {A : Type 0} {R : Grammar A} {n : Kind} {p : Reader A} {word : List What} → Lawful [] (n ∷ []) false word R p → Lawful (n ∷ []) (n ∷ []) true [] (optional R) (optional_at n p)
 optional_lawful l = either (seq l (λ x. gives_lawful (Some x)) refl) (gives_lawful None) refl
 
-pub given_lawful : {A : Type 0} {R : Grammar A} {n : ℕ} {p : Reader A} {word : List What} → Lawful [] (n ∷ []) false word R p → Lawful (n ∷ []) (n ∷ []) true [] (given R) (given_at n p)
+pub given_lawful : {A : Type 0} {R : Grammar A} {n : Kind} {p : Reader A} {word : List What} → Lawful [] (n ∷ []) false word R p → Lawful (n ∷ []) (n ∷ []) true [] (given R) (given_at n p)
 given_lawful l = either (seq_ l (gives_lawful true) refl) (gives_lawful false) refl
 
 -- ---- R { S R }
 
-pub list_bars : (n : ℕ) (bars : List ℕ) → Within (joined bars (n ∷ joined bars [])) (n ∷ bars)
+pub list_bars : (n : Kind) (bars : List Kind) → Within (joined bars (n ∷ joined bars [])) (n ∷ bars)
 list_bars n bars k h =
-    loop_bars n bars k (or_right (k == n) (member k (joined (joined bars (n ∷ joined bars [])) [])) (member-joined_left k (joined bars (n ∷ joined bars [])) [] h))
+    loop_bars n bars k (or_right (same_kind k n) (member k (joined (joined bars (n ∷ joined bars [])) [])) (member-joined_left k (joined bars (n ∷ joined bars [])) [] h))
 
-pub joined_nil : (ns : List ℕ) → Within (joined ns []) ns
+pub joined_nil : (ns : List Kind) → Within (joined ns []) ns
 joined_nil ns k h = elim (member-joined_cases k ns [] h) [
   | inl e ↦ e
   | inr e ↦ absurd (member_nil k e)
 ]
 
-module _ {A B : Type 0} {S : Grammar B} {R : Grammar A} {n : ℕ} {s : Reader B} {p : Reader A} {bars heads : List ℕ} {sign word : List What}
+module _ {A B : Type 0} {S : Grammar B} {R : Grammar A} {n : Kind} {s : Reader B} {p : Reader A} {bars heads : List Kind} {sign word : List What}
     (mark : Lawful [] (n ∷ []) false sign S s) (l : Lawful bars heads false word R p) (h : member n bars ≡ false) where
   pub list_of_lawful : Lawful (n ∷ bars) heads false word (list_of S R) (list_of_at n s p)
   list_of_lawful =

@@ -2,12 +2,13 @@
 use Rattle.std.proofs.Common.{◌≡◌, ℕ, zero, suc, ◌-◌, ◌<◌, true, false, List, [], ◌∷◌, ◌++◌, refl, sym, ◌∙◌, ap, append_assoc, append-nil, arith}
 use Rattle.std.specs.Prelude.{Ok, Err, if◌then◌else◌}
 use Rattle.hv_model.specs.declared.lexeme.Lexeme.{Lexeme}
+use Rattle.hv_model.specs.declared.lexeme.Kind.{Kind}
 use Rattle.hv_model.specs.Reading.{Read, Reader, on_read, ◌>>=◌, gives_at, next_is, more_up_to_at}
 use Rattle.hv_sql.specs.declared.stop.Stop.{Stop}
 use Rattle.hv_sql.specs.declared.stop.Stop.TheVariants.{Memory, At}
 use Rattle.hv_sql.specs.Code.{Gives, with_front}
 
-module _ {A B : Type 0} (n : ℕ) (s : Reader B) (p : Reader A) where
+module _ {A B : Type 0} (n : Kind) (s : Reader B) (p : Reader A) where
   -- what one turn reads, and then the rest
   abbrev pub turn : ℕ → A → Reader (List A)
   turn room x = more_up_to_at room n s p >>= λ xs. gives_at (x ∷ xs)

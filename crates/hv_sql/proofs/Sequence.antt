@@ -1,14 +1,15 @@
 -- One grammar behind another keeps the laws.
-use Rattle.std.proofs.Common.{◌≡◌, ◌⊎◌, ℕ, Bool, true, ◌&&◌, List, [], ◌∷◌, ◌++◌, refl, sym, ◌∙◌, ap, subst, inl, inr, append_assoc}
+use Rattle.std.proofs.Common.{◌≡◌, ◌⊎◌, Bool, true, ◌&&◌, List, [], ◌∷◌, ◌++◌, refl, sym, ◌∙◌, ap, subst, inl, inr, append_assoc}
 use Rattle.std.specs.Prelude.{Ok, Err}
 use Rattle.std.specs.List.{list_all}
 use Rattle.std.proofs.lemmas.Bool.{and_from}
 use Rattle.std.proofs.lemmas.List.Folds.{list_all-append}
 use Rattle.hv_model.specs.declared.lexeme.Lexeme.{Lexeme}
 use Rattle.hv_model.specs.declared.lexeme.What.{What}
+use Rattle.hv_model.specs.declared.lexeme.Kind.{Kind}
 use Rattle.hv_model.specs.Terminals.{whats}
 use Rattle.hv_model.specs.Grammar as g
-use Rattle.hv_model.specs.Grammar.{Grammar, Then, More, gives, one, ◌or◌, optional, given, more_up_to, more, list_of, list_of_up_to}
+use Rattle.hv_model.specs.Grammar.{Grammar, Then}
 use Rattle.hv_model.specs.Reading.{Read, Reader, on_read, ◌>>=◌, ◌>>◌}
 use Rattle.hv_sql.proofs.KindSets.{joined, apart, when, Avoids, Begins, member-joined_left, member-joined_right, Within-Avoids, Within-Begins, apart-Avoids}
 use Rattle.hv_sql.proofs.Lawful.{fault_is, ok_no_err, Took, FailedBy, LawfulBy, placed, whats-placed}
@@ -116,7 +117,7 @@ module _ {A B : Type 0} {R : Grammar A} (p : Reader A) {Q : A → Grammar B} (q 
         ∙ s.same t us after e;
   }
 
-  module _ {good : What → Bool} {bars heads bars' heads' : List ℕ} {empty empty' : Bool} {word word' : List What} (l : LawfulBy good bars heads empty word R p) (m : (a : A) → LawfulBy good bars' heads' empty' word' (Q a) (q a)) where
+  module _ {good : What → Bool} {bars heads bars' heads' : List Kind} {empty empty' : Bool} {word word' : List What} (l : LawfulBy good bars heads empty word R p) (m : (a : A) → LawfulBy good bars' heads' empty' word' (Q a) (q a)) where
     pub real' : list_all good word' ≡ true
     real' = (m (l.some (placed word) (whats-placed word)).0).real
 
@@ -170,12 +171,12 @@ module _ {A B : Type 0} {R : Grammar A} (p : Reader A) {Q : A → Grammar B} (q 
     }
 
 -- one behind another, and what follows depends on the value or not
-pub seq : {A B : Type 0} {good : What → Bool} {R : Grammar A} {p : Reader A} {Q : A → Grammar B} {q : A → Reader B} {bars heads bars' heads' : List ℕ} {empty empty' : Bool} {word word' : List What}
+pub seq : {A B : Type 0} {good : What → Bool} {R : Grammar A} {p : Reader A} {Q : A → Grammar B} {q : A → Reader B} {bars heads bars' heads' : List Kind} {empty empty' : Bool} {word word' : List What}
     → LawfulBy good bars heads empty word R p → ((a : A) → LawfulBy good bars' heads' empty' word' (Q a) (q a)) → apart heads' bars ≡ true
     → LawfulBy good (joined (when empty' bars) bars') (joined heads (when empty heads')) (empty && empty') (word ++ word') (g.◌>>=◌ R Q) (p >>= q)
 seq {p = p} {q = q} l m a = bind_lawful p q l m a
 
-pub seq_ : {A B : Type 0} {good : What → Bool} {R : Grammar A} {p : Reader A} {Q : Grammar B} {q : Reader B} {bars heads bars' heads' : List ℕ} {empty empty' : Bool} {word word' : List What}
+pub seq_ : {A B : Type 0} {good : What → Bool} {R : Grammar A} {p : Reader A} {Q : Grammar B} {q : Reader B} {bars heads bars' heads' : List Kind} {empty empty' : Bool} {word word' : List What}
     → LawfulBy good bars heads empty word R p → LawfulBy good bars' heads' empty' word' Q q → apart heads' bars ≡ true
     → LawfulBy good (joined (when empty' bars) bars') (joined heads (when empty heads')) (empty && empty') (word ++ word') (g.◌>>◌ R Q) (p >> q)
 seq_ {p = p} {q = q} l m a = bind_lawful p (λ _. q) l (λ _. m) a

@@ -1,6 +1,6 @@
 // Conditions, with NOT and parentheses nested to a depth.
 ghost use Rattle.std.specs.Prelude.{◌≡◌, [], ◌∷◌};
-ghost use Rattle.hv_model.specs.Terminals as spec;
+ghost use Rattle.hv_model.specs.declared.lexeme.Kind.TheVariants as kinds;
 ghost use Rattle.hv_model.specs.Reading.{more_at};
 ghost use Rattle.hv_model.specs.Sql.{list_or_one};
 ghost use Rattle.hv_model.specs.SqlReading.{keyword_at, conj_at, cond_at, deeper_at, term_at, where_part_at};
@@ -49,7 +49,7 @@ fn more_terms<'a>(
     first: CondAst,
     lexemes: Rest<'a>,
 ) -> Result<(Items<CondAst>, Rest<'a>), Stop<'a>>
-    ensures { Gives result (with_front (first ∷ []) (more_at (spec.keyword_kind k.And) (keyword_at k.And) (term_at depth) lexemes.entry)) }
+    ensures { Gives result (with_front (first ∷ []) (more_at (kinds.Keyword k.And) (keyword_at k.And) (term_at depth) lexemes.entry)) }
 {
     let mut list = Items::new(alloc);
     list.push(first)?;
@@ -84,7 +84,7 @@ fn more_conjs<'a>(
     first: CondAst,
     lexemes: Rest<'a>,
 ) -> Result<(Items<CondAst>, Rest<'a>), Stop<'a>>
-    ensures { Gives result (with_front (first ∷ []) (more_at (spec.keyword_kind k.Or) (keyword_at k.Or) (conj_at (term_at depth)) lexemes.entry)) }
+    ensures { Gives result (with_front (first ∷ []) (more_at (kinds.Keyword k.Or) (keyword_at k.Or) (conj_at (term_at depth)) lexemes.entry)) }
 {
     let mut list = Items::new(alloc);
     list.push(first)?;

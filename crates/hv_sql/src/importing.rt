@@ -5,16 +5,16 @@ ghost use Rattle.hv_model.specs.Parsed.{largest_number, import_lines_at, lines_w
 ghost use Rattle.hv_sql.specs.Code.{Passes, Finds};
 
 use crate::rest::Seen;
-use crate::terminal::{keyword_kind, kind};
+use crate::terminal::is_of_kind;
 use crate::unlexed::Unlexed;
-use hv_model::{Keyword, Numeral};
+use hv_model::{Keyword, Kind, Numeral};
 
 // What is left behind a keyword.
 fn keyword<'a>(which: Keyword, lexemes: Unlexed<'a>) -> Option<Unlexed<'a>>
     ensures { Passes result (keyword_at which lexemes.entry) }
 {
     match lexemes.first() {
-        Some((next, rest)) if kind(next.what) == keyword_kind(which) => Some(rest),
+        Some((next, rest)) if is_of_kind(next.what, Kind::Keyword(which)) => Some(rest),
         _ => None,
     }
 }

@@ -1,11 +1,12 @@
 // The laws of the grammar.
-ghost use Rattle.hv_model.specs.Terminals.{KindsApart};
+ghost use Rattle.hv_model.specs.Terminals.{KindsCompared, KindsApart};
 ghost use Rattle.hv_sql.specs.Completion.{FaultsCompleted, FaultsFinal};
 ghost use Rattle.hv_sql.specs.Laws.{OneTree, TreesSound, TreesComplete, FaultsSound, FaultsComplete, OneFault, NoFaultToo, OnePlace};
 
 /// Lexemes are one statement or have one fault, and never both; and the reading of them gives it. A select that is grouped has one place.
 /// It does nothing: its contract is this law.
 pub fn grammar_laws()
+    ensures compared { KindsCompared }
     ensures kinds { KindsApart }
     ensures tree { OneTree }
     ensures sound { TreesSound }

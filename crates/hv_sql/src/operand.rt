@@ -6,10 +6,8 @@ ghost use Rattle.hv_sql.specs.Code.{Gives};
 use crate::reference::reference;
 use crate::rest::Rest;
 use crate::stop::Stop;
-use crate::terminal::{
-    MAX_NUMBER, NAME, NUMBER, cmp, next_is, next_symbol, number_up_to, symbol, text,
-};
-use hv_model::{CondAst, OperandAst, Symbol};
+use crate::terminal::{MAX_NUMBER, cmp, next_is, next_symbol, number_up_to, symbol, text};
+use hv_model::{CondAst, Kind, OperandAst, Symbol};
 use hv_row::Value;
 use std::alloc::Global;
 
@@ -40,10 +38,10 @@ fn negative<'a>(lexemes: Rest<'a>) -> Result<(OperandAst, Rest<'a>), Stop<'a>>
 fn operand<'a>(alloc: Global, lexemes: Rest<'a>) -> Result<(OperandAst, Rest<'a>), Stop<'a>>
     ensures { Gives result (operand_at lexemes.entry) }
 {
-    if next_is(NAME, &lexemes) {
+    if next_is(Kind::Name, &lexemes) {
         let (column, rest) = reference(alloc, lexemes)?;
         Ok((OperandAst::Col(column), rest))
-    } else if next_is(NUMBER, &lexemes) {
+    } else if next_is(Kind::Number, &lexemes) {
         let (number, rest) = number_up_to(MAX_NUMBER, lexemes)?;
         Ok((OperandAst::Lit(Value::Int(number.value as i64)), rest))
     } else if next_symbol(Symbol::Minus, &lexemes) {

@@ -7,8 +7,8 @@ use crate::reference::reference;
 use crate::rest::Rest;
 use crate::rule::{Rule, short_list_of};
 use crate::stop::Stop;
-use crate::terminal::{MAX_NUMBER, NUMBER, given, keyword, next_is, next_word, number_up_to};
-use hv_model::{KeyAst, KeyAsts, KeyBy, Keyword, PlaceAsts, RefAst, RefAsts};
+use crate::terminal::{MAX_NUMBER, given, keyword, next_is, next_word, number_up_to};
+use hv_model::{KeyAst, KeyAsts, KeyBy, Keyword, Kind, PlaceAsts, RefAst, RefAsts};
 use hv_row::Listed;
 use std::alloc::Global;
 
@@ -57,7 +57,7 @@ pub fn groups_of<'a>(
 fn key_by<'a>(alloc: Global, lexemes: Rest<'a>) -> Result<((KeyBy, u32), Rest<'a>), Stop<'a>>
     ensures { Gives result (key_by_at lexemes.entry) }
 {
-    if next_is(NUMBER, &lexemes) {
+    if next_is(Kind::Number, &lexemes) {
         let (number, rest) = number_up_to(MAX_NUMBER, lexemes)?;
         Ok(((KeyBy::Number(number.value), number.byte), rest))
     } else {

@@ -8,8 +8,8 @@ ghost use Rattle.hv_sql.specs.Code.{Gives};
 use crate::rest::Rest;
 use crate::rule::{Rule, list_of};
 use crate::stop::Stop;
-use crate::terminal::{NAME, keyword, name, next_is, next_word};
-use hv_model::{ItemAsts, Keyword, PlaceAst, PlaceAsts, Word, has_aggregate};
+use crate::terminal::{keyword, name, next_is, next_word};
+use hv_model::{ItemAsts, Keyword, Kind, PlaceAst, PlaceAsts, Word, has_aggregate};
 use hv_row::Listed;
 use std::alloc::Global;
 
@@ -22,7 +22,7 @@ fn alias<'a>(alloc: Global, lexemes: Rest<'a>) -> Result<(Option<Word>, Rest<'a>
         let (_, rest) = keyword(Keyword::As, lexemes)?;
         let (word, rest) = name(alloc, rest)?;
         Ok((Some(word), rest))
-    } else if next_is(NAME, &lexemes) {
+    } else if next_is(Kind::Name, &lexemes) {
         let (word, rest) = name(alloc, lexemes)?;
         Ok((Some(word), rest))
     } else {

@@ -1,6 +1,6 @@
 // Lists of trees with commas between them.
 ghost use Rattle.std.specs.Prelude.{◌≡◌, [], ◌∷◌};
-ghost use Rattle.hv_model.specs.Terminals as spec;
+ghost use Rattle.hv_model.specs.declared.lexeme.Kind.TheVariants as kinds;
 ghost use Rattle.hv_model.specs.Reading.{more_up_to_at, list_of_at, list_of_up_to_at};
 ghost use Rattle.hv_model.specs.Sql.{most_behind};
 ghost use Rattle.hv_model.specs.SqlReading.{symbol_at};
@@ -37,7 +37,7 @@ fn more<'a, T: Rule>(
     room: usize,
     lexemes: Rest<'a>,
 ) -> Result<(Listed<T>, Rest<'a>), Stop<'a>>
-    ensures { Gives result (with_front (first ∷ []) (more_up_to_at room (spec.symbol_kind Comma) (symbol_at Comma) T.reader lexemes.entry)) }
+    ensures { Gives result (with_front (first ∷ []) (more_up_to_at room (kinds.Symbol Comma) (symbol_at Comma) T.reader lexemes.entry)) }
 {
     let mut list = Listed::new(alloc);
     list.push(first)?;
@@ -58,7 +58,7 @@ pub fn list_of<'a, T: Rule>(
     alloc: Global,
     lexemes: Rest<'a>,
 ) -> Result<(Listed<T>, Rest<'a>), Stop<'a>>
-    ensures { Gives result (list_of_at (spec.symbol_kind Comma) (symbol_at Comma) T.reader lexemes.entry) }
+    ensures { Gives result (list_of_at (kinds.Symbol Comma) (symbol_at Comma) T.reader lexemes.entry) }
 {
     let (first, rest) = T::read(alloc, lexemes)?;
     let room = rest.len();
@@ -70,7 +70,7 @@ pub fn short_list_of<'a, T: Rule>(
     alloc: Global,
     lexemes: Rest<'a>,
 ) -> Result<(Listed<T>, Rest<'a>), Stop<'a>>
-    ensures { Gives result (list_of_up_to_at most_behind (spec.symbol_kind Comma) (symbol_at Comma) T.reader lexemes.entry) }
+    ensures { Gives result (list_of_up_to_at most_behind (kinds.Symbol Comma) (symbol_at Comma) T.reader lexemes.entry) }
 {
     let (first, rest) = T::read(alloc, lexemes)?;
     more(alloc, first, MAX_BEHIND, rest)

@@ -1,6 +1,6 @@
 -- A depth falls where a term nests; what is still read behind a list gives what was to be read.
 use Rattle.std.proofs.Common.{◌≡◌, [], ◌∷◌, ◌+◌, ◌*◌}
-use Rattle.hv_model.specs.Terminals as spec
+use Rattle.hv_model.specs.declared.lexeme.Kind.TheVariants as kinds
 use Rattle.hv_model.specs.Reading.{more_at, more_up_to_at}
 use Rattle.hv_model.specs.SqlReading.{keyword_at, conj_at, term_at}
 use Rattle.hv_sql.specs.Code.{with_front}
@@ -27,16 +27,16 @@ decreases-deeper l = 6 * l.depth + 5
 
 abbrev pub invariant-more_terms-loop-left : goal.invariant-more_terms-loop-left
 invariant-more_terms-loop-left l =
-    with_front l.list (more_up_to_at l.left (spec.keyword_kind k.And) (keyword_at k.And) (term_at l.fn.depth) l.rest)
-    ≡ with_front (l.fn.first ∷ []) (more_at (spec.keyword_kind k.And) (keyword_at k.And) (term_at l.fn.depth) l.fn.lexemes)
+    with_front l.list (more_up_to_at l.left (kinds.Keyword k.And) (keyword_at k.And) (term_at l.fn.depth) l.rest)
+    ≡ with_front (l.fn.first ∷ []) (more_at (kinds.Keyword k.And) (keyword_at k.And) (term_at l.fn.depth) l.fn.lexemes)
 
 abbrev pub decreases-more_terms-loop-left : goal.decreases-more_terms-loop-left
 decreases-more_terms-loop-left l = l.left
 
 abbrev pub invariant-more_conjs-loop-left : goal.invariant-more_conjs-loop-left
 invariant-more_conjs-loop-left l =
-    with_front l.list (more_up_to_at l.left (spec.keyword_kind k.Or) (keyword_at k.Or) (conj_at (term_at l.fn.depth)) l.rest)
-    ≡ with_front (l.fn.first ∷ []) (more_at (spec.keyword_kind k.Or) (keyword_at k.Or) (conj_at (term_at l.fn.depth)) l.fn.lexemes)
+    with_front l.list (more_up_to_at l.left (kinds.Keyword k.Or) (keyword_at k.Or) (conj_at (term_at l.fn.depth)) l.rest)
+    ≡ with_front (l.fn.first ∷ []) (more_at (kinds.Keyword k.Or) (keyword_at k.Or) (conj_at (term_at l.fn.depth)) l.fn.lexemes)
 
 abbrev pub decreases-more_conjs-loop-left : goal.decreases-more_conjs-loop-left
 decreases-more_conjs-loop-left l = l.left

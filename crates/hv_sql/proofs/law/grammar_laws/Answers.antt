@@ -1,11 +1,12 @@
 -- The laws, part by part.
-use Rattle.hv_sql.proofs.KindNumbers.{kinds_apart}
+use Rattle.hv_sql.proofs.KindLaws.{kinds_compared, kinds_apart}
 use Rattle.hv_sql.proofs.OneReading.{one_tree, trees_sound, trees_complete, faults_sound, faults_complete, one_fault, no_fault_too}
 use Rattle.hv_sql.proofs.Grouped.{one_place}
 use Rattle.hv_sql.proofs.law.grammar_laws.Goals as goal
 
 pub returns : goal.returns
 returns c = record {
+  compared = kinds_compared;
   kinds = kinds_apart;
   tree = one_tree;
   sound = trees_sound;
