@@ -7,6 +7,57 @@ ghost use Rattle.hv_model.specs.Lexemes.{all_keywords, keyword_spelling, keyword
 
 use hv_model::{Keyword, Symbol, is_word};
 
+// The keywords of two letters up to seven, each in the order of the alphabet.
+const TWO_LETTERS: [Keyword; 5] = [
+    Keyword::As,
+    Keyword::By,
+    Keyword::Is,
+    Keyword::Of,
+    Keyword::Or,
+];
+
+const THREE_LETTERS: [Keyword; 7] = [
+    Keyword::And,
+    Keyword::Asc,
+    Keyword::Int,
+    Keyword::Max,
+    Keyword::Min,
+    Keyword::Not,
+    Keyword::Sum,
+];
+
+const FOUR_LETTERS: [Keyword; 5] = [
+    Keyword::Desc,
+    Keyword::From,
+    Keyword::Into,
+    Keyword::Null,
+    Keyword::Text,
+];
+
+const FIVE_LETTERS: [Keyword; 12] = [
+    Keyword::Chunk,
+    Keyword::Count,
+    Keyword::Group,
+    Keyword::Index,
+    Keyword::Limit,
+    Keyword::Lines,
+    Keyword::Merge,
+    Keyword::Order,
+    Keyword::Purge,
+    Keyword::Range,
+    Keyword::Table,
+    Keyword::Where,
+];
+
+const SIX_LETTERS: [Keyword; 4] = [
+    Keyword::Chunks,
+    Keyword::Create,
+    Keyword::Import,
+    Keyword::Select,
+];
+
+const SEVEN_LETTERS: [Keyword; 3] = [Keyword::Barrier, Keyword::Session, Keyword::Summary];
+
 const SYMBOLS: [Symbol; 13] = [
     Symbol::Open,
     Symbol::Close,
@@ -72,50 +123,12 @@ fn keywords_of_length(length: usize) -> &'static [Keyword]
     ensures { result.now ≡ filter (has_length length) all_keywords }
 {
     match length {
-        2 => &[
-            Keyword::As,
-            Keyword::By,
-            Keyword::Is,
-            Keyword::Of,
-            Keyword::Or,
-        ],
-        3 => &[
-            Keyword::And,
-            Keyword::Asc,
-            Keyword::Int,
-            Keyword::Max,
-            Keyword::Min,
-            Keyword::Not,
-            Keyword::Sum,
-        ],
-        4 => &[
-            Keyword::Desc,
-            Keyword::From,
-            Keyword::Into,
-            Keyword::Null,
-            Keyword::Text,
-        ],
-        5 => &[
-            Keyword::Chunk,
-            Keyword::Count,
-            Keyword::Group,
-            Keyword::Index,
-            Keyword::Limit,
-            Keyword::Lines,
-            Keyword::Merge,
-            Keyword::Order,
-            Keyword::Purge,
-            Keyword::Range,
-            Keyword::Table,
-            Keyword::Where,
-        ],
-        6 => &[
-            Keyword::Chunks,
-            Keyword::Create,
-            Keyword::Import,
-            Keyword::Select,
-        ],
-        7 => &[Keyword::Barrier, Keyword::Session, Keyword::Summary],
+        2 => &TWO_LETTERS,
+        3 => &THREE_LETTERS,
+        4 => &FOUR_LETTERS,
+        5 => &FIVE_LETTERS,
+        6 => &SIX_LETTERS,
+        7 => &SEVEN_LETTERS,
         _ => &[],
     }
 }
