@@ -37,9 +37,10 @@ kept_new writer schema same added number none = record {
   digested = refl;
 }
 
-stored_more : (schema : List Column) (rows : List (List Value)) (row : List Value) → AllByRecursion (IsStored schema) rows → IsStored schema row → AllByRecursion (IsStored schema) (rows ++ row ∷ [])
-stored_more schema [] row all one = (one, tt)
-stored_more schema (r ∷ rows) row all one = (all.0, stored_more schema rows row all.1 one)
+-- what holds of each element and of one behind them
+pub all_more : {X : Type 0} (P : X → Type 0) (xs : List X) (y : X) → AllByRecursion P xs → P y → AllByRecursion P (xs ++ y ∷ [])
+all_more P [] y all one = (one, tt)
+all_more P (x ∷ xs) y all one = (all.0, all_more P xs y all.1 one)
 
 -- the bytes of the rows with one more
 bytes_more : (schema : List Column) (rows : List (List Value)) (row : List Value) (slots after : List (List ℕ)) → slots ≡ map (row_bytes schema) rows → after ≡ slots ++ row_bytes schema row ∷ [] → after ≡ map (row_bytes schema) (rows ++ row ∷ [])
@@ -67,7 +68,7 @@ kept_stays before after building digests row_count row placed kept few stored st
       added = omega (arith, kept.added, length-append building.rows (row ∷ []));
       counted = omega (arith, kept.counted, length-append building.rows (row ∷ []));
       few = omega arith;
-      stored = stored_more building.schema building.rows row kept.stored stored;
+      stored = all_more (IsStored building.schema) building.rows row kept.stored stored;
       parts = kept.parts;
       begun = λ none. absurd (omega (arith, ap length none, length-append before.entries (row_bytes before.schema row ∷ [])));
       packed = stays_packed kept.parts before.entries (row_bytes before.schema row) kept.begun kept.packed stays.fits;
@@ -87,7 +88,7 @@ kept_begins before after building digests row_count row placed kept few stored b
       added = omega (arith, kept.added, length-append building.rows (row ∷ []));
       counted = omega (arith, kept.counted, length-append building.rows (row ∷ []));
       few = omega arith;
-      stored = stored_more building.schema building.rows row kept.stored stored;
+      stored = all_more (IsStored building.schema) building.rows row kept.stored stored;
       parts = kept.parts ++ before.entries ∷ [];
       begun = λ none. cc;
       packed = begins_packed kept.parts before.entries (row_bytes before.schema row) short kept.packed begins.full_page;
