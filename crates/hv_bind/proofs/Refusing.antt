@@ -19,9 +19,15 @@ use Rattle.hv_bind.specs.Keys.{keys_refusal}
 
 -- ---- points of which none stands
 
-pub none_first : (a b : Option Refusal) → option_or a b ≡ None → (a ≡ None) × (b ≡ None)
+-- where the first or the other is none, there is neither
+pub none_first : {X : Type 0} (a b : Option X) → option_or a b ≡ None → (a ≡ None) × (b ≡ None)
 none_first None b e = (refl, e)
-none_first (Some r) b e = absurd cc
+none_first (Some x) b e = absurd cc
+
+-- nothing stands behind the last
+pub none_behind : {X : Type 0} (o : Option X) → option_or o None ≡ o
+none_behind None = refl
+none_behind (Some x) = refl
 
 -- ---- FROM places
 
@@ -44,10 +50,6 @@ pub few_places : (ps : List PlaceAst) (absent : Option ℕ) → places_refusal p
 few_places ps absent none = omega (arith, few_behind [] 0 absent ps (omega arith) none)
 
 -- ---- the parts of a select
-
-none_behind : (point : Option Refusal) → option_or point None ≡ point
-none_behind None = refl
-none_behind (Some r) = refl
 
 last_of : (a b c : Option Refusal) → a ≡ None → b ≡ None → first_of (a ∷ b ∷ c ∷ []) ≡ c
 last_of a b c e f = ap (λ z. option_or z (option_or b (option_or c None))) e ∙ ap (λ z. option_or z (option_or c None)) f ∙ none_behind c

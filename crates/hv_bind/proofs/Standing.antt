@@ -1,12 +1,12 @@
 -- A reference that isn't refused names a column that stands.
-use Rattle.std.proofs.Common.{◌≡◌, ℕ, zero, suc, ◌+◌, ◌<◌, Bool, true, false, ◌&&◌, List, [], ◌∷◌, length, Option, Some, None, refl, ap, subst, ◌∙◌, arith}
+use Rattle.std.proofs.Common.{◌≡◌, ℕ, suc, ◌+◌, ◌<◌, Bool, true, List, [], ◌∷◌, length, get_or, Option, Some, None, refl, ap, subst, ◌∙◌, arith}
 use Rattle.std.specs.Prelude.{Result, Ok, Err, is_some, slice_get}
-use Rattle.std.specs.List.{list_all, cons_option}
+use Rattle.std.specs.List.{list_all, cons_option, position}
 use Rattle.std.specs.Option.{option_map, option_and_then}
 use Rattle.std.proofs.lemmas.Bool.{and_from, and_parts}
 use Rattle.std.proofs.lemmas.List.Folds.{list_all-append}
 use Rattle.std.proofs.lemmas.List.Quantifiers.{position-Some}
-use Rattle.std.proofs.lemmas.Option.{slice_get-map, option_and_then_some}
+use Rattle.std.proofs.lemmas.Option.{slice_get-map, slice_get-get_or, option_and_then_some}
 use Rattle.hv_row.specs.declared.schema.Column.{Column}
 use Rattle.hv_row.specs.Schema.{same_name}
 use Rattle.hv_model.specs.declared.tree.PlaceAst.{PlaceAst}
@@ -20,10 +20,15 @@ use Rattle.hv_model.specs.Bound.{refusal_in, schemas_of, found, ref_of, ref_refu
 
 -- ---- lists
 
-there : {X : Type 0} (xs : List X) (i : ℕ) → i < length xs → (x : X) × (slice_get xs i ≡ Some x)
-there [] i lt = absurd (omega arith)
-there (x ∷ xs) zero lt = (x, refl)
-there (x ∷ xs) (suc i) lt = there xs i (omega arith)
+-- there is an element at each number below the length
+pub element : {X : Type 0} (xs : List X) (i : ℕ) → i < length xs → (x : X) × (slice_get xs i ≡ Some x)
+element [] i lt = absurd (omega arith)
+element (x ∷ xs) i lt = (get_or (x ∷ xs) i x, slice_get-get_or (x ∷ xs) i x lt)
+
+-- the first element that passes stands below the length
+pub position_within : {X : Type 0} (p : X → Bool) (xs : List X) (k : ℕ) → position p xs ≡ Some k → k < length xs
+position_within p [] k e = absurd cc
+position_within p (x ∷ xs) k e = (position-Some p (x ∷ xs) k x e).0
 
 -- ---- columns of tables from the `at`-th on
 
@@ -42,7 +47,7 @@ stand_here heads at h hs stand = subst (λ (n : ℕ). slice_get heads n ≡ Some
 
 column_stands : (heads : List TableHead) (place column : ℕ) (h : TableHead) → slice_get heads place ≡ Some h → column < length h.schema → is_column (schemas_of heads) (column_at place column) ≡ true
 column_stands heads place column h is lt =
-    let c = there h.schema column lt in
+    let c = element h.schema column lt in
     let schema : slice_get (schemas_of heads) place ≡ Some h.schema = slice_get-map (λ h. h.schema) heads place ∙ ap (option_map (λ h. h.schema)) is in
     ap (λ (o : Option (List Column)). is_some (option_and_then (λ columns. option_map (λ c. c.kind) (slice_get columns column)) o)) schema
     ∙ ap (λ (o : Option Column). is_some (option_map (λ c. c.kind) o)) c.1
@@ -54,8 +59,7 @@ named_here S at None rest here all = all
 named_here S at (Some k) rest here all = and_from (is_column S (column_at at k)) (list_all (is_column S) rest) (here k refl) all
 
 number_within : (columns : List Column) (name : List ℕ) (k : ℕ) → column_number columns name ≡ Some k → k < length columns
-number_within [] name k e = absurd cc
-number_within (c ∷ columns) name k e = (position-Some (λ c. same_name c.name name) (c ∷ columns) k c e).0
+number_within columns name k e = position_within (λ c. same_name c.name name) columns k e
 
 named_stand : (heads : List TableHead) (name : List ℕ) (at : ℕ) (hs : List TableHead) → Stand heads at hs → list_all (is_column (schemas_of heads)) (columns_named at hs name) ≡ true
 named_stand heads name at [] stand = refl
