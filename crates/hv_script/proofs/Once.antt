@@ -1,11 +1,11 @@
 -- Statements are read in one way, and so is what ends them.
-use Rattle.std.proofs.Common.{◌≡◌, ◌⊎◌, inl, inr, ℕ, zero, suc, ◌+◌, ◌<◌, ◌≤◌, true, false, cond, List, [], ◌∷◌, ◌++◌, length, IsUtf8, IsSome, refl, sym, ◌∙◌, ap, subst, arith}
+use Rattle.std.proofs.Common.{◌≡◌, ◌⊎◌, inl, inr, ℕ, zero, suc, ◌+◌, ◌<◌, ◌≤◌, true, false, cond, List, [], ◌∷◌, ◌++◌, length, IsSome, refl, sym, ◌∙◌, ap, subst, arith}
 use Rattle.std.specs.Prelude.{nat_le}
 use Rattle.std.specs.List.{list_all}
 use Rattle.std.proofs.lemmas.Bool.Decides.{nat_tests}
 use Rattle.std.proofs.lemmas.Str.{utf8_valid_len-IsValidUpTo}
 use Rattle.hv_model.specs.Parsed.{lines_wanted}
-use Rattle.hv_model.specs.Script.{most_bytes, most_lines, most_statements, is_blank, begins_unblank, quoted_behind, line_list, data_behind, TakesLines, Takes, Statements, IsScript, IsFault, IsNotUtf8, Follows}
+use Rattle.hv_model.specs.Script.{most_bytes, most_lines, most_statements, is_blank, begins_unblank, quoted_behind, line_list, data_behind, TakesLines, Takes, Statements, ReadsTo, IsScript, IsFault, IsNotUtf8, Follows}
 use Rattle.hv_model.specs.declared.script.Statement.{Statement}
 use Rattle.hv_model.specs.declared.script.Script.{Script}
 use Rattle.hv_model.specs.declared.script.FaultName.{FaultName}
@@ -119,20 +119,18 @@ stands_unblank rest from name (inr c) h =
 
 -- a fault behind statements
 record Halts (bytes : List ℕ) (name : FaultName) (byte : ℕ) : Type 0 where
-  short : length bytes ≤ most_bytes
-  utf8 : IsUtf8 bytes
-  statements : List Statement
   rest : List ℕ
-  read : Statements bytes 1 statements rest
-  count : length statements ≤ most_statements
-  last : Last most_statements statements rest
+  front : ReadsTo bytes rest
+  last : Last most_statements front.statements rest
   from : List ℕ
   at : byte + length from ≡ length bytes
   stands : Stands rest name from
 
 halts_same : (bytes : List ℕ) (name other : FaultName) (byte place : ℕ) → Halts bytes name byte → Halts bytes other place → (name ≡ other) × (byte ≡ place)
 halts_same bytes name other byte place f g =
-    let rests = (statements_same most_statements bytes 1 f.statements g.statements f.rest g.rest f.read g.read f.count g.count f.last g.last).1 in
+    let a = f.front in
+    let b = g.front in
+    let rests = (statements_same most_statements bytes 1 a.statements b.statements f.rest g.rest a.read b.read a.count b.count f.last g.last).1 in
     let same = stands_same f.rest f.from g.from name other f.stands (subst (λ z. Stands z other g.from) (sym rests) g.stands) in
     let n : length f.from ≡ length g.from = ap length same.1 in
     let d : byte + length f.from ≡ length bytes = f.at in
@@ -146,12 +144,8 @@ follows_closes bytes text behind byte f = record { blanks = f.blanks; blank = f.
 follows_halts : (bytes text behind : List ℕ) (name : FaultName) (byte : ℕ) (f : Follows bytes byte text behind) → Last most_statements f.front.statements f.rest
     → name ≡ fault_by (lines_wanted text) (length (line_list (data_behind behind))) → Halts bytes name byte
 follows_halts bytes text behind name byte f last is = record {
-  short = f.front.short;
-  utf8 = f.front.utf8;
-  statements = f.front.statements;
   rest = f.rest;
-  read = f.front.read;
-  count = f.front.count;
+  front = f.front;
   last = last;
   from = text ++ 59 ∷ behind;
   at = f.at;
@@ -190,12 +184,8 @@ kind_of bytes NotUtf8 byte f = inr (inl (refl, f))
 kind_of bytes Unended byte f =
     let o : OpensText f.rest f.text = record { blanks = f.blanks; blank = f.blank; begins = f.begins; unended = f.unended; is = f.is } in
     inr (inr (record {
-      short = f.front.short;
-      utf8 = f.front.utf8;
-      statements = f.front.statements;
       rest = f.rest;
-      read = f.front.read;
-      count = f.front.count;
+      front = f.front;
       last = inl (opens_blocked f.rest f.text o);
       from = f.text;
       at = f.at;
@@ -221,13 +211,13 @@ too_long bytes long short = omega arith
 kinds_same : (bytes : List ℕ) (name other : FaultName) (byte place : ℕ) → Kind bytes name byte → Kind bytes other place → (name ≡ other) × (byte ≡ place)
 kinds_same bytes name other byte place (inl f) (inl g) = (f.0 ∙ sym g.0, f.2 ∙ sym g.2)
 kinds_same bytes name other byte place (inl f) (inr (inl g)) = absurd (too_long bytes f.1 g.1.short)
-kinds_same bytes name other byte place (inl f) (inr (inr g)) = absurd (too_long bytes f.1 g.short)
+kinds_same bytes name other byte place (inl f) (inr (inr g)) = absurd (too_long bytes f.1 g.front.short)
 kinds_same bytes name other byte place (inr (inl f)) (inl g) = absurd (too_long bytes g.1 f.1.short)
 kinds_same bytes name other byte place (inr (inl f)) (inr (inl g)) =
     (f.0 ∙ sym g.0, sym (utf8_valid_len-IsValidUpTo bytes byte f.1.longest) ∙ utf8_valid_len-IsValidUpTo bytes place g.1.longest)
-kinds_same bytes name other byte place (inr (inl f)) (inr (inr g)) = absurd (f.1.none g.utf8)
-kinds_same bytes name other byte place (inr (inr f)) (inl g) = absurd (too_long bytes g.1 f.short)
-kinds_same bytes name other byte place (inr (inr f)) (inr (inl g)) = absurd (g.1.none f.utf8)
+kinds_same bytes name other byte place (inr (inl f)) (inr (inr g)) = absurd (f.1.none g.front.utf8)
+kinds_same bytes name other byte place (inr (inr f)) (inl g) = absurd (too_long bytes g.1 f.front.short)
+kinds_same bytes name other byte place (inr (inr f)) (inr (inl g)) = absurd (g.1.none f.front.utf8)
 kinds_same bytes name other byte place (inr (inr f)) (inr (inr g)) = halts_same bytes name other byte place f g
 
 -- at most one fault
@@ -249,7 +239,7 @@ script_or_kind : (bytes : List ℕ) (s : Script) (name : FaultName) (byte : ℕ)
 script_or_kind bytes s name byte i (inl f) = too_long bytes f.1 i.short
 script_or_kind bytes s name byte i (inr (inl f)) = f.1.none i.utf8
 script_or_kind bytes s name byte i (inr (inr f)) =
-    let rests = (statements_same most_statements bytes 1 i.statements f.statements i.rest f.rest i.read f.read i.count f.count
+    let rests = (statements_same most_statements bytes 1 i.statements f.front.statements i.rest f.rest i.read f.front.read i.count f.front.count
     (inl (blank_blocked i.rest i.blank)) f.last).1 in
     stands_unblank f.rest f.from name f.stands (subst (λ z. list_all is_blank z ≡ true) rests i.blank)
 
