@@ -61,29 +61,23 @@ so_far_shut bytes at end lt quote h =
       longest = λ n more le. absurd (omega arith);
     }
 
+-- a byte with which the text goes on ends none
+so_far_on : (bytes : List ℕ) (at end : ℕ) (pending : Bool) → ((ys : List ℕ) → closes false (take (at + 1) bytes ++ ys) ≡ closes false ys) → SoFar bytes at end pending → SoFar bytes (at + 1) end false
+so_far_on bytes at end pending next h = record {
+  state = next;
+  within = let w = h.within in omega arith;
+  here = λ e. absurd (false≢true e);
+  closed = h.closed;
+  longest = longest_more bytes at end h.longest (state_now bytes (at + 1) false next);
+}
+
 -- the second of two quotes
 pub so_far_again : (bytes : List ℕ) (at end : ℕ) → at < length bytes → get_or bytes at 0 ≡ 39 → SoFar bytes at end true → SoFar bytes (at + 1) end false
-so_far_again bytes at end lt quote h =
-    let next = state_next bytes at true false lt h.state (quote_step (get_or bytes at 0) true quote) in
-    record {
-      state = next;
-      within = let w = h.within in omega arith;
-      here = λ e. absurd (false≢true e);
-      closed = h.closed;
-      longest = longest_more bytes at end h.longest (state_now bytes (at + 1) false next);
-    }
+so_far_again bytes at end lt quote h = so_far_on bytes at end true (state_next bytes at true false lt h.state (quote_step (get_or bytes at 0) true quote)) h
 
 -- a byte that is no quote
 pub so_far_plain : (bytes : List ℕ) (at end : ℕ) → at < length bytes → (get_or bytes at 0 ≡ 39 → ⊥) → SoFar bytes at end false → SoFar bytes (at + 1) end false
-so_far_plain bytes at end lt ne h =
-    let next = state_next bytes at false false lt h.state (plain_step (get_or bytes at 0) ne) in
-    record {
-      state = next;
-      within = let w = h.within in omega arith;
-      here = λ e. absurd (false≢true e);
-      closed = h.closed;
-      longest = longest_more bytes at end h.longest (state_now bytes (at + 1) false next);
-    }
+so_far_plain bytes at end lt ne h = so_far_on bytes at end false (state_next bytes at false false lt h.state (plain_step (get_or bytes at 0) ne)) h
 
 stop_at : (rest : List ℕ) (k b : ℕ) (bs : List ℕ) → rest ≡ b ∷ bs → (b ≡ 39 → ⊥) → 0 < k → closes true (take k rest) ≡ false
 stop_at rest zero b bs e ne some = absurd (omega arith)
