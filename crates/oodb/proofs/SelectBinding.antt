@@ -1,11 +1,10 @@
 -- A select over the tables of a database: where its places are allowed each has its head, and nothing refuses it but its names and types.
-use Rattle.std.proofs.Common.{◌≡◌, ℕ, zero, suc, ◌+◌, ◌<◌, ◌≤◌, Bool, true, false, not, cond, List, [], ◌∷◌, ◌++◌, length, min, take, drop, get_or, Option, Some, None, refl, sym, ap, ◌∙◌, subst, arith, append_assoc, leb-false, ltb-true, ltb-false}
+use Rattle.std.proofs.Common.{◌≡◌, ℕ, zero, suc, ◌+◌, ◌<◌, ◌≤◌, Bool, true, false, not, cond, List, [], ◌∷◌, ◌++◌, length, min, take, drop, get_or, Option, Some, None, refl, sym, ap, ◌∙◌, subst, arith, append_assoc, ltb-false}
 use Rattle.std.specs.Prelude.{nat_le, nat_lt, is_none, IfSome, IfOk, Result, Ok, Err, if◌then◌else◌}
 use Rattle.std.specs.List.{All, position, prefix_len, slice_get, cons_option}
 use Rattle.std.specs.Option.{option_or, option_map, option_and_then}
 use Rattle.std.proofs.lemmas.Bool.{eqb-false}
 use Rattle.std.proofs.lemmas.List.{take_all, drop_all, append-nil, at_drop_more}
-use Rattle.std.proofs.lemmas.Option.{cond_some}
 use Rattle.std.proofs.lemmas.List.Elements.{All-nil, All-push, All-map}
 use Rattle.hv_row.specs.Schema.{same_name}
 use Rattle.hv_model.specs.declared.tree.PlaceAst.{PlaceAst}
@@ -19,45 +18,27 @@ use Rattle.hv_model.specs.Database.{table_number}
 use Rattle.hv_model.specs.Scope.{is_number, place_refusal, refusal_behind, places_refusal}
 use Rattle.hv_model.specs.Bound.{bind_refusal, bound_query}
 use Rattle.hv_model.specs.Selected.{head_of, head_named, heads_of, is_absent, first_absent, select_refusal, select_query}
-use Rattle.oodb.proofs.StoreChanges.{element}
+use Rattle.hv_bind.proofs.Refusing.{few_places, none_first, none_behind}
+use Rattle.hv_bind.proofs.Standing.{element, position_within}
 
 -- ---- places that nothing refuses
 
--- of two refusals that give none there is neither
-neither : {X : Type 0} (a b : Option X) → option_or a b ≡ None → (a ≡ None) × (b ≡ None)
-neither None b e = (refl, e)
-neither (Some x) b e = absurd cc
+-- of three tests that refuse nothing the second fails
+second_fails : (a b c : Bool) (r q t : Refusal) → (if a then Some r else (if b then Some q else (if c then Some t else None))) ≡ None → b ≡ false
+second_fails true b c r q t e = absurd cc
+second_fails false true c r q t e = absurd cc
+second_fails false false c r q t e = refl
 
--- of three tests that refuse nothing the first two fail
-both_fail : (a b c : Bool) (r q t : Refusal) → (if a then Some r else (if b then Some q else (if c then Some t else None))) ≡ None → (a ≡ false) × (b ≡ false)
-both_fail true b c r q t e = absurd cc
-both_fail false true c r q t e = absurd cc
-both_fail false false c r q t e = (refl, refl)
+-- the table of a place that isn't refused is not the absent one
+not_absent : (before : List PlaceAst) (at : ℕ) (absent : Option ℕ) (p : PlaceAst) → place_refusal before at absent p ≡ None → is_number absent at ≡ false
+not_absent before at absent p e = second_fails (nat_le 4 at) (is_number absent at) _ _ _ _ e
 
--- a place that isn't refused is one of four, and its table is not the absent one
-record IsAllowed (at : ℕ) (absent : Option ℕ) : Type 0 where
-  pub few : nat_le 4 at ≡ false
-  pub stands : is_number absent at ≡ false
-
-allowed_place : (before : List PlaceAst) (at : ℕ) (absent : Option ℕ) (p : PlaceAst) → place_refusal before at absent p ≡ None → IsAllowed at absent
-allowed_place before at absent p e =
-    let tests = both_fail (nat_le 4 at) (is_number absent at) _ _ _ _ e in record { few = tests.0; stands = tests.1 }
-
--- places that aren't refused are at most four
-few_places : (before : List PlaceAst) (at : ℕ) (absent : Option ℕ) (ps : List PlaceAst) → at ≤ 4 → refusal_behind before at absent ps ≡ None → at + length ps ≤ 4
-few_places before at absent [] le e = omega arith
-few_places before at absent (p ∷ ps) le e =
-    let each = neither (place_refusal before at absent p) (refusal_behind (before ++ p ∷ []) (at + 1) absent ps) e in
-    let here : at < 4 = leb-false 4 at (allowed_place before at absent p each.0).few in
-    let others = few_places (before ++ p ∷ []) (at + 1) absent ps (omega arith) each.1 in
-    omega arith
-
--- and none of them is the absent one
+-- of places that aren't refused none is the absent one
 none_absent : (before : List PlaceAst) (at k : ℕ) (ps : List PlaceAst) → at ≤ k → k < at + length ps → refusal_behind before at (Some k) ps ≡ None → ⊥
 none_absent before at k [] from below e = absurd (omega arith)
 none_absent before at k (p ∷ ps) from below e =
-    let each = neither (place_refusal before at (Some k) p) (refusal_behind (before ++ p ∷ []) (at + 1) (Some k) ps) e in
-    let here : k ≡ at → ⊥ = eqb-false k at (allowed_place before at (Some k) p each.0).stands in
+    let each = none_first (place_refusal before at (Some k) p) (refusal_behind (before ++ p ∷ []) (at + 1) (Some k) ps) e in
+    let here : k ≡ at → ⊥ = eqb-false k at (not_absent before at (Some k) p each.0) in
     none_absent (before ++ p ∷ []) (at + 1) k ps (omega (arith, here)) (omega arith) each.1
 
 -- ---- the first of a list that passes
@@ -65,14 +46,6 @@ none_absent before at k (p ∷ ps) from below e =
 none_test : (t : Bool) (n : ℕ) → cond t (Some n) None ≡ None → t ≡ false
 none_test true n e = absurd cc
 none_test false n e = refl
-
--- it stands below the length
-position_below : {X : Type 0} (p : X → Bool) (xs : List X) (k : ℕ) → position p xs ≡ Some k → k < length xs
-position_below p xs k e =
-    let test = cond_some (nat_lt (prefix_len (λ x. not (p x)) xs) (length xs)) (prefix_len (λ x. not (p x)) xs) k e in
-    let below : prefix_len (λ x. not (p x)) xs < length xs = ltb-true (prefix_len (λ x. not (p x)) xs) (length xs) test.0 in
-    let same : prefix_len (λ x. not (p x)) xs ≡ k = test.1 in
-    omega arith
 
 -- where there is none, all fail
 no_position : {X : Type 0} (p : X → Bool) (xs : List X) → position p xs ≡ None → length xs ≤ prefix_len (λ x. not (p x)) xs
@@ -93,7 +66,7 @@ there (Some x) e = (x, refl)
 head_stands : (s : Database) (name : List ℕ) → is_none (table_number s name) ≡ false → (h : TableHead) × (head_named s name ≡ Some h)
 head_stands s name stands =
     let number = there (table_number s name) stands in
-    let table = element s.tables number.0 (position_below (λ t. same_name t.name name) s.tables number.0 number.1) in
+    let table = element s.tables number.0 (position_within (λ t. same_name t.name name) s.tables number.0 number.1) in
     (head_of number.0 table.0, ap (λ o. option_and_then (λ at. option_map (head_of at) (slice_get s.tables at)) o) number.1 ∙ ap (option_map (head_of number.0)) table.1)
 
 -- where each table stands there are as many heads as places
@@ -120,9 +93,9 @@ absent_none ps (Some k) below e = absurd (none_absent [] 0 k ps (omega arith) (l
 
 pub are_allowed : (s : Database) (ps : List PlaceAst) → places_refusal ps (first_absent s ps) ≡ None → AreAllowed s ps
 are_allowed s ps e =
-    let few : length ps ≤ 4 = (let all = few_places [] 0 (first_absent s ps) ps (omega arith) e in omega arith) in
+    let few : length ps ≤ 4 = few_places ps (first_absent s ps) e in
     let same : first_absent s ps ≡ position (is_absent s) ps = ap (position (is_absent s)) (take_all 4 ps few) in
-    let stand : first_absent s ps ≡ None = absent_none ps (first_absent s ps) (λ k is. position_below (is_absent s) ps k (sym same ∙ is)) e in record {
+    let stand : first_absent s ps ≡ None = absent_none ps (first_absent s ps) (λ k is. position_within (is_absent s) ps k (sym same ∙ is)) e in record {
       few = few;
       stand = stand;
       heads = heads_count s ps (no_position (is_absent s) ps (sym same ∙ stand));
@@ -142,15 +115,11 @@ has_heads x s from absent refused made heads same is tested none made_is are = r
   are = made_is ∙ are ∙ ap (heads_of s) same;
 }
 
-or_none : {X : Type 0} (o : Option X) → option_or o None ≡ o
-or_none None = refl
-or_none (Some x) = refl
-
 -- nothing but its names and types refuses it
 pub refusal_is : (x : SelectAst) (s : Database) (heads : List TableHead) → places_refusal x.places (first_absent s x.places) ≡ None → heads ≡ heads_of s x.places
     → select_refusal x s ≡ bind_refusal x heads
 refusal_is x s heads allowed are =
-    ap (λ o. option_or o (option_or (bind_refusal x (heads_of s x.places)) None)) allowed ∙ or_none (bind_refusal x (heads_of s x.places)) ∙ ap (bind_refusal x) (sym are)
+    ap (λ o. option_or o (option_or (bind_refusal x (heads_of s x.places)) None)) allowed ∙ none_behind (bind_refusal x (heads_of s x.places)) ∙ ap (bind_refusal x) (sym are)
 
 -- a place that is refused refuses the select
 pub refused_place : (x : SelectAst) (s : Database) (absent : Option ℕ) (cause : Refusal) → absent ≡ first_absent s x.places → places_refusal x.places absent ≡ Some cause → select_refusal x s ≡ Some cause

@@ -4,7 +4,7 @@ use Rattle.std.specs.List.{position, prefix_len, slice_get, slice_set, AllByRecu
 use Rattle.std.specs.Option.{option_map}
 use Rattle.std.proofs.Math.Seq.{map-set_same}
 use Rattle.std.proofs.lemmas.List.{length-map, map-set, map-append}
-use Rattle.std.proofs.lemmas.Option.{slice_get-map, slice_get-get_or}
+use Rattle.std.proofs.lemmas.Option.{slice_get-map, slice_get_read}
 use Rattle.hv_row.specs.declared.value.Value.{Value}
 use Rattle.hv_model.specs.declared.catalogue.Table.{Table}
 use Rattle.hv_model.specs.declared.catalogue.Database.{Database}
@@ -12,6 +12,7 @@ use Rattle.hv_model.specs.declared.catalogue.Command.TheVariants.{Import}
 use Rattle.hv_model.proofs.Places.{slice_get-last}
 use Rattle.hv_model.specs.Database.{table_number, import_refusal, import_into, import_at, stepped, with_chunk, with_last_chunk, step}
 use Rattle.hv_view.specs.View.{IsBuilt}
+use Rattle.hv_chunk.proofs.Keeping.{all_more}
 use Rattle.oodb.specs.declared.store.StoredChunk.{StoredChunk}
 use Rattle.oodb.specs.declared.store.StoredTable.{StoredTable}
 use Rattle.oodb.specs.declared.store.Store.{Store}
@@ -39,26 +40,11 @@ all_set P [] i y all new = tt
 all_set P (x ∷ xs) zero y all new = (new, all.1)
 all_set P (x ∷ xs) (suc i) y all new = (all.0, all_set P xs i y all.1 new)
 
--- one element is put behind the others
-all_more : {X : Type 0} (P : X → Type 0) (xs : List X) (y : X) → AllByRecursion P xs → P y → AllByRecursion P (xs ++ y ∷ [])
-all_more P [] y all new = (new, tt)
-all_more P (x ∷ xs) y all new = (all.0, all_more P xs y all.1 new)
-
 -- there is an element of a number
 pub some_within : {X : Type 0} (P : X → Type 0) (xs : List X) (i : ℕ) → IsSomeAnd (slice_get xs i) P → i < length xs
 some_within P [] i some = absurd some
 some_within P (x ∷ xs) zero some = omega arith
 some_within P (x ∷ xs) (suc i) some = let h : i < length xs = some_within P xs i some in omega arith
-
--- so there is at each number below the length
-pub element : {X : Type 0} (xs : List X) (i : ℕ) → i < length xs → (x : X) × (slice_get xs i ≡ Some x)
-element [] i lt = absurd (omega arith)
-element (x ∷ xs) zero lt = (x, refl)
-element (x ∷ xs) (suc i) lt = element xs i (omega arith)
-
--- the element that was read stands there
-pub stands_at : {X : Type 0} (xs : List X) (i : ℕ) (x : X) → i < length xs → x ≡ get_or xs i x → slice_get xs i ≡ Some x
-stands_at xs i x within is = slice_get-get_or xs i x within ∙ ap Some (sym is)
 
 pub some_is : {X : Type 0} (P : X → Type 0) (o : Option X) (x : X) → o ≡ Some x → IsSomeAnd o P → P x
 some_is P o x is some = subst (λ (p : Option _). IsSomeAnd p P) is some
@@ -75,7 +61,7 @@ database_same s at t u is same = map-set_same table_of s.tables.items at u t (sa
 pub sound_same : {File : Type 0} (tells : Bool) (pages : File → List (List ℕ)) (tables : List (StoredTable File)) (at : ℕ) (t u : StoredTable File) → at < length tables → t ≡ get_or tables at t
     → AllByRecursion (TableIsSound tells pages) tables → u.schema ≡ t.schema → u.chunks.items ≡ t.chunks.items → AllByRecursion (TableIsSound tells pages) (slice_set tables at u)
 sound_same tells pages tables at t u within is sound schema chunks =
-    let was : TableIsSound tells pages t = all_stands (TableIsSound tells pages) tables at t sound (stands_at tables at t within is) in
+    let was : TableIsSound tells pages t = all_stands (TableIsSound tells pages) tables at t sound (slice_get_read tables (length tables) at t refl within is) in
     all_set (TableIsSound tells pages) tables at u sound (rw (schema, chunks) was)
 
 -- a table with one chunk more
@@ -83,7 +69,7 @@ pub sound_more : {File : Type 0} (tells : Bool) (pages : File → List (List ℕ
     → AllByRecursion (TableIsSound tells pages) tables → IsBuilt tells pages t.schema c.chunk.rows c.chunk → u.schema ≡ t.schema → u.chunks.items ≡ t.chunks.items ++ c ∷ []
     → AllByRecursion (TableIsSound tells pages) (slice_set tables at u)
 sound_more tells pages tables at t u c within is sound built schema chunks =
-    let was : TableIsSound tells pages t = all_stands (TableIsSound tells pages) tables at t sound (stands_at tables at t within is) in
+    let was : TableIsSound tells pages t = all_stands (TableIsSound tells pages) tables at t sound (slice_get_read tables (length tables) at t refl within is) in
     all_set (TableIsSound tells pages) tables at u sound (rw (schema, chunks) (all_more (λ d. IsBuilt tells pages t.schema d.chunk.rows d.chunk) t.chunks.items c was built))
 
 -- the import of a chunk's rows into the table of a number that stands and takes them
@@ -98,7 +84,7 @@ pub step_import : {File : Type 0} (s : Store File) (at : ℕ) (t u : StoredTable
     → table_number (database_of s) name ≡ Some at
     → step (database_of s) (Import name c.chunk.rows) ≡ Ok (record { tables = map table_of (slice_set s.tables.items at u); made = s.made + 1; length = s.length + 1 })
 step_import s at t u c name within is allowed named schema chunks numbered found =
-    let stands : slice_get (map table_of s.tables.items) at ≡ Some (table_of t) = slice_get-map table_of s.tables.items at ∙ ap (option_map table_of) (stands_at s.tables.items at t within is) in
+    let stands : slice_get (map table_of s.tables.items) at ≡ Some (table_of t) = slice_get-map table_of s.tables.items at ∙ ap (option_map table_of) (slice_get_read s.tables.items (length s.tables.items) at t refl within is) in
     let table : table_of u ≡ with_last_chunk (table_of t) (s.made + 1) c.chunk.rows = rw (named, schema, chunks, map-append chunk_of t.chunks.items (c ∷ []), numbered) refl in
     let all : map table_of (slice_set s.tables.items at u) ≡ slice_set (map table_of s.tables.items) at (with_last_chunk (table_of t) (s.made + 1) c.chunk.rows) =
     map-set table_of s.tables.items at u ∙ ap (slice_set (map table_of s.tables.items) at) table in
@@ -142,7 +128,7 @@ files_pushed {File} s new t files tables none made are = record {
 pub files_set : {File : Type 0} (s new : Store File) (at : ℕ) (t u : StoredTable File) (files : List File) → at < length s.tables.items → t ≡ get_or s.tables.items at t → new.tables.items ≡ slice_set s.tables.items at u
     → u.chunks.items ≡ t.chunks.items → new.made ≡ s.made → AreFiles s files → AreFiles new files
 files_set {File} s new at t u files within is tables chunks made are =
-    let was : HasItsFiles files t = all_stands (HasItsFiles files) s.tables.items at t are.each (stands_at s.tables.items at t within is) in record {
+    let was : HasItsFiles files t = all_stands (HasItsFiles files) s.tables.items at t are.each (slice_get_read s.tables.items (length s.tables.items) at t refl within is) in record {
       count = are.count ∙ sym made;
       each = subst (λ (its : List (StoredTable File)). AllByRecursion (HasItsFiles files) its) (sym tables)
           (all_set (HasItsFiles files) s.tables.items at u are.each (subst (λ (cs : List (StoredChunk File)). AllByRecursion (λ c. IsFileOf files c.number c.chunk.file) cs) (sym chunks) was));
@@ -156,7 +142,7 @@ files_more {File} s new at t u c files within is tables chunks numbered made are
     let each : AllByRecursion (HasItsFiles more) s.tables.items =
     all_so (HasItsFiles files) (HasItsFiles more) s.tables.items
     (λ t all. all_so (λ c. IsFileOf files c.number c.chunk.file) (λ c. IsFileOf more c.number c.chunk.file) t.chunks.items (λ d is. file_longer files (c.chunk.file ∷ []) d.number d.chunk.file is) all) are.each in
-    let was : HasItsFiles more t = all_stands (HasItsFiles more) s.tables.items at t each (stands_at s.tables.items at t within is) in
+    let was : HasItsFiles more t = all_stands (HasItsFiles more) s.tables.items at t each (slice_get_read s.tables.items (length s.tables.items) at t refl within is) in
     let place : c.number - 1 ≡ length files = (let count : length files ≡ s.made = are.count in omega arith) in
     let last : IsFileOf more c.number c.chunk.file = (omega arith, ap (slice_get more) place ∙ slice_get-last files c.chunk.file) in
     let its : AllByRecursion (λ c. IsFileOf more c.number c.chunk.file) u.chunks.items =

@@ -3,7 +3,7 @@ use Rattle.std.proofs.Common.{◌≡◌, ℕ, zero, suc, ◌+◌, ◌<◌, ◌�
 use Rattle.std.specs.List.{flat_map, slice_get}
 use Rattle.std.specs.Option.{option_map}
 use Rattle.std.proofs.lemmas.List.{take_all}
-use Rattle.std.proofs.lemmas.Option.{slice_get-map}
+use Rattle.std.proofs.lemmas.Option.{slice_get-map, slice_get_read}
 use Rattle.hv_row.specs.declared.value.Value.{Value}
 use Rattle.hv_dev.specs.Reading.{Landing}
 use Rattle.hv_page.specs.Chunk.{AreHeapPages}
@@ -12,6 +12,7 @@ use Rattle.hv_view.specs.Known.{ChunkIsKnown}
 use Rattle.hv_model.specs.declared.reply.Why.{Why}
 use Rattle.hv_model.specs.declared.reply.Failure.{Failure}
 use Rattle.hv_model.specs.declared.reply.Failure.TheVariants.{Read, Write, Damaged, Memory}
+use Rattle.hv_bind.proofs.Standing.{element}
 use Rattle.oodb.specs.declared.store.StoredChunk.{StoredChunk}
 use Rattle.oodb.specs.declared.store.StoredTable.{StoredTable}
 use Rattle.oodb.specs.declared.store.Store.{Store}
@@ -20,7 +21,7 @@ use Rattle.oodb.specs.Known.{DatabaseIsKnown}
 use Rattle.oodb.specs.Reads.{PortSeen, IsIdle, ReadsOn, GoesOn, AllSince}
 use Rattle.oodb.specs.Damage.{IsWhy, ServesChunk, AllServeChunk, IsDamage, ReadsChunk, WasWritten, Serves, IsFileOf, StandsOnNew}
 use Rattle.oodb.specs.Answer.{AllWell, FailedOver}
-use Rattle.oodb.proofs.StoreChanges.{all_stands, element, stands_at, table_stands}
+use Rattle.oodb.proofs.StoreChanges.{all_stands, table_stands}
 use Rattle.oodb.proofs.Landed.{WrittenPage, written_page}
 use Rattle.oodb.proofs.Knowing.{chunk_known, database_known_fewer}
 use Rattle.oodb.proofs.Steps.{goes_nowhere, goes_on_more, well_unread, well_both, failed_later}
@@ -46,7 +47,7 @@ pub record StandsAt {File : Type 0} (tells : Bool) (pages : File → List (List 
 pub stands_within : {File : Type 0} (tells : Bool) (pages : File → List (List ℕ)) (s : Store File) (at place : ℕ) (t : StoredTable File) → IsSound tells pages s → at < length s.tables.items → t ≡ get_or s.tables.items at t
     → place < length t.chunks.items → StandsAt tells pages s t.chunks.items place
 stands_within {File} tells pages s at place t sound within is below =
-    let stands : slice_get s.tables.items at ≡ Some t = stands_at s.tables.items at t within is in
+    let stands : slice_get s.tables.items at ≡ Some t = slice_get_read s.tables.items (length s.tables.items) at t refl within is in
     let table : TableIsSound tells pages t = all_stands _ s.tables.items at t sound.tables stands in
     let found = element t.chunks.items place below in
     record {

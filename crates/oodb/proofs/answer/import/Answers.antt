@@ -1,6 +1,7 @@
 -- The new chunk's entry is the last of the history.
 use Rattle.std.proofs.Common.{refl, sym, ◌≡◌, ◌∙◌, ap, subst, ◌+◌, ℕ, Option, Ok, Some, length}
 use Rattle.std.specs.List.{slice_get}
+use Rattle.std.proofs.lemmas.Option.{slice_get_read}
 use Rattle.hv_model.specs.Import.{rows_of}
 use Rattle.hv_model.specs.Database.{table_number, step}
 use Rattle.hv_model.specs.declared.catalogue.Database.{Database}
@@ -9,7 +10,7 @@ use Rattle.hv_model.specs.declared.catalogue.Detail.TheVariants as detail
 use Rattle.hv_view.specs.View.{IsBuilt}
 use Rattle.oodb.specs.Stored.{database_of}
 use Rattle.oodb.specs.Answer.{Imports, IsImportOf}
-use Rattle.oodb.proofs.StoreChanges.{some_within, some_and, stands_at}
+use Rattle.oodb.proofs.StoreChanges.{some_within, some_and}
 use Rattle.oodb.proofs.Answering.{commits_import, same_schema, takes_chunk}
 use Rattle.oodb.proofs.answer.import.Goals as goal
 
@@ -19,13 +20,13 @@ add_chunk-requires-clause-accepted g c =
     let imports : Imports c.args.statement.now c.args.table (database_of c.args.store.now) c.in-Some.at =
     subst (λ (o : Option ℕ). IsImportOf c.args.statement.now c.args.table (database_of c.args.store.now) o) c.in-Some.is c.in_ok-at.ensures in
     takes_chunk c.args.statement.now c.args.table (database_of c.args.store.now) s c.in-Some.at c.index.result.now imports c.in_ok-reserve.ensures.same
-    (stands_at s.tables.items c.in-Some.at c.index.result.now (some_within _ s.tables.items c.in-Some.at c.in_ok-reserve.ensures.room) c.index.ensures)
+    (slice_get_read s.tables.items (length s.tables.items) c.in-Some.at c.index.result.now refl (some_within _ s.tables.items c.in-Some.at c.in_ok-reserve.ensures.room) c.index.ensures)
 
 pub add_chunk-requires-clause-built : goal.add_chunk-requires-clause-built
 add_chunk-requires-clause-built g c =
     let s = c.reserve.new.self in
     some_and (λ t. IsBuilt g.P.File.PageFile.tells g.P.File.PageFile.pages t.schema c.in_ok-chunk.chunk.rows c.in_ok-chunk.chunk) (slice_get s.tables.items c.in-Some.at) c.index.result.now
-    (stands_at s.tables.items c.in-Some.at c.index.result.now (some_within _ s.tables.items c.in-Some.at c.in_ok-reserve.ensures.room) c.index.ensures) c.in_ok-chunk.ensures.built
+    (slice_get_read s.tables.items (length s.tables.items) c.in-Some.at c.index.result.now refl (some_within _ s.tables.items c.in-Some.at c.in_ok-reserve.ensures.room) c.index.ensures) c.in_ok-chunk.ensures.built
 
 pub returns-clause-settles : goal.returns-clause-settles
 returns-clause-settles g c max =
@@ -37,7 +38,7 @@ returns-clause-settles g c max =
     let imports : Imports c.args.statement.now c.args.table (database_of c.args.store.now) c.in-Some.at =
     subst (λ (o : Option ℕ). IsImportOf c.args.statement.now c.args.table (database_of c.args.store.now) o) c.in-Some.is c.in_ok-at.ensures in
     let same : database_of s ≡ before = c.in_ok-reserve.ensures.same in
-    let stands = stands_at s.tables.items c.in-Some.at c.index.result.now (some_within _ s.tables.items c.in-Some.at c.in_ok-reserve.ensures.room) c.index.ensures in
+    let stands = slice_get_read s.tables.items (length s.tables.items) c.in-Some.at c.index.result.now refl (some_within _ s.tables.items c.in-Some.at c.in_ok-reserve.ensures.room) c.index.ensures in
     let schema = same_schema c.args.statement.now c.args.table before s c.in-Some.at c.index.result.now imports same stands in
     let spelled : rows_of imports.table.schema c.args.statement.now.lines ≡ Some rows = rw (schema, sym c.as_slice.ensures) c.in_ok-chunk.ensures.rows in
     let steps : step before (Import name rows) ≡ Ok new =

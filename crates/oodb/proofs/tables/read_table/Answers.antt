@@ -1,8 +1,9 @@
 -- the rows of all chunks are the table's, and a chunk that was not read is the cause
-use Rattle.std.proofs.Common.{arith}
+use Rattle.std.proofs.Common.{arith, length, refl}
+use Rattle.std.proofs.lemmas.Option.{slice_get_read}
 use Rattle.oodb.specs.Answer.{ReadsTables}
 use Rattle.oodb.specs.Reads.{port_seen}
-use Rattle.oodb.proofs.StoreChanges.{all_stands, stands_at}
+use Rattle.oodb.proofs.StoreChanges.{all_stands}
 use Rattle.oodb.proofs.StoreLaws.{rows_listed}
 use Rattle.oodb.proofs.Landed.{handed_on}
 use Rattle.oodb.proofs.TableReading.{stands_within, none_read, one_more_read, all_read, chunk_unread}
@@ -14,7 +15,7 @@ loop-place-init g c = none_read _ _ _ _ _ c.requires.idle c.new-rows.ensures
 pub read_stored-requires-clause-sound : goal.read_stored-requires-clause-sound
 read_stored-requires-clause-sound g c =
     let t = c.index-table.result.now in
-    all_stands _ c.args.store.now.tables.items c.args.at t c.requires.sound.tables (stands_at c.args.store.now.tables.items c.args.at t c.requires.within c.index-table.ensures)
+    all_stands _ c.args.store.now.tables.items c.args.at t c.requires.sound.tables (slice_get_read c.args.store.now.tables.items (length c.args.store.now.tables.items) c.args.at t refl c.requires.within c.index-table.ensures)
 
 pub loop-place-preserved : goal.loop-place-preserved
 loop-place-preserved g c =
@@ -46,7 +47,7 @@ pub returns-clause-rows : goal.returns-clause-rows
 returns-clause-rows g c known =
     let s = c.args.store.now in
     let t = c.index-table.result.now in
-    rows_listed s c.args.at t c.loop-place.rows (stands_at s.tables.items c.args.at t c.requires.within c.index-table.ensures)
+    rows_listed s c.args.at t c.loop-place.rows (slice_get_read s.tables.items (length s.tables.items) c.args.at t refl c.requires.within c.index-table.ensures)
     (all_read _ s t.chunks.items c.loop-place.place _ _ _ c.loop-place.invariant (omega arith) known)
 
 pub returns-clause-reads : goal.returns-clause-reads
