@@ -1,5 +1,6 @@
 pub mod Places
 pub mod Made
 pub mod Laws
+pub mod Chains
 pub mod Indexed
 pub mod Ordered

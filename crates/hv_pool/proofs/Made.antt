@@ -1,27 +1,28 @@
 -- The places of a pool that is made, and of one that ends.
-use Rattle.std.proofs.Common.{◌≡◌, ℕ, zero, suc, ◌+◌, ◌<◌, ◌≤◌, ◌^◌, Bool, true, false, cond, ◌||◌, ◌&&◌, nat_eq, List, [], ◌∷◌, ◌++◌, map, length, get_or, set, refl, sym, ap, ◌∙◌, subst, arith, IsPermutation, Some, None, true≢false, option_to_list, take, drop, ◌*◌, ◌%◌}
+use Rattle.std.proofs.Common.{◌≡◌, ℕ, zero, suc, ◌+◌, ◌-◌, ◌<◌, ◌≤◌, ◌^◌, ◌⊎◌, inl, inr, ap₂, Bool, true, false, cond, ◌||◌, ◌&&◌, nat_eq, List, [], ◌∷◌, ◌++◌, map, length, get_or, set, refl, sym, ap, ◌∙◌, subst, arith, IsPermutation, Some, None, true≢false, option_to_list, ◌*◌, ◌%◌}
 use Rattle.std.specs.Prelude.{All, IfSome}
 use Rattle.std.specs.declared.option.Option.{Option}
 use Rattle.std.specs.List.{count_by, range_with_len}
-use Rattle.std.proofs.lemmas.Bool.{eqb-true, eq-eqb}
+use Rattle.std.proofs.lemmas.Bool.{cases_eq, cases_lt, eqb-true, eqb-false, eq-eqb, ne_eqb}
+use Rattle.std.proofs.lemmas.Nat.{and_le_l}
+use Rattle.std.proofs.lemmas.Nat.Bits.{bit_at_clear_same, bit_at_clear_other, bit_at_and, bit_at_above, bit_at-lt, same_from_bits}
 use Rattle.std.proofs.Math.Seq.{map-set_same}
-use Rattle.std.proofs.lemmas.List.{append_assoc, append-nil, length-append, length-map, get_or-map, get_or-set_same, take-append-drop, take_more_set}
-use Rattle.std.proofs.lemmas.List.Edits.{map_over_more}
-use Rattle.std.specs.Int.{w64, bit_not}
+use Rattle.std.proofs.lemmas.List.{append_assoc, append-nil, length-map, get_or-map, get_or-set_same}
+use Rattle.std.specs.Int.{w64, bit_not, bit_at}
 use lib.Bits.{and_zero_l}
 use Rattle.std.proofs.lemmas.List.FromFn.{length-range_with_len, get_or-range_with_len}
 use Rattle.std.proofs.lemmas.List.Elements.{All-cons, All-head, All-tail, All-map, All-set}
-use Rattle.std.proofs.lemmas.List.Sums.{sum_by-append, sum_by-cons}
+use Rattle.std.proofs.lemmas.List.Sums.{sum_by-append, sum_by-cons, sum_by-set}
 use Rattle.std.proofs.lemmas.List.Sorted.{sum_by-IsPermutation, length_permutation, All-permutation, IsPermutation-refl, IsPermutation-sym, IsPermutation-trans, IsPermutation-middle, IsPermutation-append_right, IsPermutation-map, IsPermutation-to_front}
 use Rattle.hv_frames.specs.Frames.{Framed, AreAll}
 use Rattle.hv_pool.specs.declared.slot.Slot.{Slot}
 use Rattle.hv_pool.specs.declared.slot.Held.{Held}
 use Rattle.hv_pool.specs.declared.slot.Held.TheVariants as held
 use Rattle.hv_pool.specs.Key.{same_key}
-use Rattle.hv_pool.specs.Slots.{is_free, is_cached, is_reading, is_in_hand, is_open, is_gone, is_numbered, stands, under, without_wait, Holds}
+use Rattle.hv_pool.specs.Slots.{is_free, is_cached, is_reading, is_in_hand, is_open, is_gone, is_numbered, stands, under, waits_bit, without_wait, Holds}
 use Rattle.hv_pool.specs.Shape.{IsInOrder}
 use Rattle.hv_pool.specs.Made.{here, AreOfOne, IsFresh, IsFilled, empty_slot, owner_of}
-use Rattle.hv_pool.proofs.Places.{get_or_any, number_at, every_number}
+use Rattle.hv_pool.proofs.Places.{get_or_any, number_at, every_number, split_at, weighed}
 use Rattle.std.proofs.lemmas.List.Concat.{flat_map-append}
 use denote.RawPtr.{Ptr}
 use Rattle.hv_pool.specs.Moves.{moved, forgotten}
@@ -183,7 +184,7 @@ all_here (y ∷ ys) n d full within = go y.frame refl n within (λ k e. all_here
     go (Some f) e (suc k) inside rest = rest k (omega (arith, full, ap (λ z. length (option_to_list z ++ here ys)) e)) (omega (arith, inside))
 
 -- what is so of all frames here is so of the frame of a place
-at_here : (P : Framed → Type 0) (slots : List Slot) (n : ℕ) (d : Slot) (frame : Framed) → All P (here slots) → n < length slots → (get_or slots n d).frame ≡ Some frame → P frame
+pub at_here : (P : Framed → Type 0) (slots : List Slot) (n : ℕ) (d : Slot) (frame : Framed) → All P (here slots) → n < length slots → (get_or slots n d).frame ≡ Some frame → P frame
 at_here P [] n d frame all within is = absurd (omega (arith, within))
 at_here P (y ∷ ys) zero d frame all within is = All-head P frame (here ys) (subst (λ z. All P (option_to_list z ++ here ys)) is all)
 at_here P (y ∷ ys) (suc n) d frame all within is = at_here P ys n d frame (go y.frame all) (omega (arith, within)) is
@@ -308,22 +309,67 @@ forgets_order owner slots came openings more who o opens =
     numbers_forgotten who [] = refl
     numbers_forgotten who (x ∷ xs) = ap (λ z. x.number ∷ z) (numbers_forgotten who xs)
 
--- one more place is changed, and counted if it is open
-pub forget_more : (who : ℕ) (xs ys : List Slot) (n openings more : ℕ) (d v e : Slot) → n < length xs → ys ≡ map (forgotten who) (take n xs) ++ drop n xs → v ≡ forgotten who (get_or ys n d)
-    → openings ≡ count_by is_open (take n ys) → more ≡ cond (is_open (get_or (set ys n v) n e)) 1 0
-    → (set ys n v ≡ map (forgotten who) (take (n + 1) xs) ++ drop (n + 1) xs) × (openings + more ≡ count_by is_open (take (n + 1) (set ys n v)))
-forget_more who xs ys n openings more d v e within changed v_is counted more_is =
-    let long : length ys ≡ length xs = ap length changed ∙ length-append (map (forgotten who) (take n xs)) (drop n xs) ∙ ap (λ z. z + length (drop n xs)) (length-map (take n xs) (forgotten who)) ∙ sym (length-append (take n xs) (drop n xs)) ∙ ap length (take-append-drop n xs) in
-    let inside : n < length ys = omega (arith, within, long) in
-    let again : get_or ys n d ≡ get_or ys n (get_or ys n d) = get_or_any ys n d (get_or ys n d) inside in (
-      ap (set ys n) v_is ∙ map_over_more (forgotten who) xs ys n (get_or ys n d) within changed again,
-      omega (
-        arith,
-        counted,
-        more_is,
-        ap {B = ℕ} (λ z. cond (is_open z) 1 0) (get_or-set_same ys n v e inside),
-        ap (count_by is_open) (take_more_set ys n v inside),
-        sum_by-append (λ s. cond (is_open s) 1 0) (take n ys) (v ∷ []),
-        sum_by-cons (λ s. cond (is_open s) 1 0) v [],
-      ),
+-- a wait that doesn't stand may end
+pub forgotten_same : (who : ℕ) (s : Slot) → who < 64 → s.waits < 2 ^ 64 → waits_bit who s.waits ≡ false → forgotten who s ≡ s
+forgotten_same who s within narrow off = ap (λ (w : ℕ). moved s s.key s.held s.came w s.frame) (same_from_bits (without_wait who s.waits) s.waits (λ i. go i (cases_eq i who)))
+  where
+    ends : bit_at s.waits who ≡ 0
+    ends = omega (arith, eqb-false (bit_at s.waits who) 1 off, bit_at-lt s.waits who)
+
+    above : (i : ℕ) → (i < 64) ⊎ (64 ≤ i)
+    above i = cases_lt i 64
+
+    go : (i : ℕ) → (i ≡ who) ⊎ (i ≡ who → ⊥) → bit_at (without_wait who s.waits) i ≡ bit_at s.waits i
+    go i (inl e) = subst (λ (k : ℕ). bit_at (without_wait who s.waits) k ≡ bit_at s.waits k) (sym e) (bit_at_clear_same w64 s.waits who within ∙ sym ends)
+    go i (inr ne) = side (above i)
+      where
+        side : (i < 64) ⊎ (64 ≤ i) → bit_at (without_wait who s.waits) i ≡ bit_at s.waits i
+        side (inl low) = bit_at_clear_other w64 s.waits who within i low ne
+        side (inr high) = omega (arith, bit_at_and s.waits (bit_not w64 (1 * 2 ^ who % 2 ^ 64)) i, bit_at_above s.waits 64 i narrow high)
+
+-- it ends once
+pub forgotten_twice : (who : ℕ) (s : Slot) → who < 64 → s.waits < 2 ^ 64 → forgotten who (forgotten who s) ≡ forgotten who s
+forgotten_twice who s within narrow = forgotten_same who (forgotten who s) within (omega (arith, narrow, and_le_l s.waits (bit_not w64 (1 * 2 ^ who % 2 ^ 64)))) (ne_eqb (bit_at (without_wait who s.waits) who) 1 (λ q. absurd (omega (arith, q, bit_at_clear_same w64 s.waits who within))))
+
+-- one more wait ends
+pub forget_more : (who : ℕ) (first xs : List Slot) (n : ℕ) (d v : Slot) → who < 64 → n < length xs → (get_or xs n d).waits < 2 ^ 64 → v ≡ forgotten who (get_or xs n d) → map (forgotten who) xs ≡ map (forgotten who) first → map (forgotten who) (set xs n v) ≡ map (forgotten who) first
+forget_more who first xs n d v within inside narrow v_is same =
+    map-set_same (forgotten who) xs n v (get_or xs n d)
+    (ap (forgotten who) v_is ∙ forgotten_twice who (get_or xs n d) within narrow ∙ ap (forgotten who) (get_or_any xs n d (get_or xs n d) inside))
+    ∙ same
+
+-- the frames that may be taken are counted
+pub forget_counted : (xs : List Slot) (n left before after : ℕ) (d e v : Slot) → n < length xs → left ≡ count_by is_open xs → before ≡ cond (is_open (get_or xs n d)) 1 0 → after ≡ cond (is_open (get_or (set xs n v) n e)) 1 0 → left - before + after ≡ count_by is_open (set xs n v)
+forget_counted xs n left before after d e v inside counted before_is after_is =
+    let s : Slot = get_or xs n d in
+    let r = split_at xs n s v inside (get_or_any xs n d s inside) in
+    omega (
+      arith,
+      counted,
+      before_is,
+      after_is,
+      weighed (λ x. cond (is_open x) 1 0) xs s r.0 r.1,
+      weighed (λ x. cond (is_open x) 1 0) (set xs n v) v r.0 r.2,
+      ap {B = ℕ} (λ (x : Slot). cond (is_open x) 1 0) (get_or-set_same xs n v e inside),
     )
+
+-- and fewer waits of the session are left
+pub forget_fewer : (who : ℕ) (xs : List Slot) (n : ℕ) (d e v : Slot) → who < 64 → n < length xs → waits_bit who (get_or xs n d).waits ≡ true → v ≡ forgotten who (get_or xs n e) → count_by (λ s. waits_bit who s.waits) (set xs n v) < count_by (λ s. waits_bit who s.waits) xs
+forget_fewer who xs n d e v within inside waits v_is =
+    omega (
+      arith,
+      sum_by-set (λ s. cond (waits_bit who s.waits) 1 0) xs n v d inside,
+      ap {B = ℕ} (λ z. cond z 1 0) waits,
+      ap {B = ℕ} (λ (s : Slot). cond (waits_bit who s.waits) 1 0) v_is,
+      ap {B = ℕ} (λ (b : ℕ). cond (nat_eq b 1) 1 0) (bit_at_clear_same w64 (get_or xs n e).waits who within),
+    )
+
+-- where no wait of the session stands, all have ended
+pub forget_done : (who : ℕ) (first xs : List Slot) → who < 64 → All (λ s. waits_bit who s.waits ≡ false) xs → ((n : ℕ) (d : Slot) → n < length xs → (get_or xs n d).waits < 2 ^ 64) → map (forgotten who) xs ≡ map (forgotten who) first → xs ≡ map (forgotten who) first
+forget_done who first xs within off narrow same = sym (none xs off narrow) ∙ same
+  where
+    none : (ys : List Slot) → All (λ s. waits_bit who s.waits ≡ false) ys → ((n : ℕ) (d : Slot) → n < length ys → (get_or ys n d).waits < 2 ^ 64) → map (forgotten who) ys ≡ ys
+    none [] a b = refl
+    none (y ∷ ys) a b =
+        ap₂ (λ z zs. z ∷ zs) (forgotten_same who y within (b 0 y (omega arith)) (All-head (λ (s : Slot). waits_bit who s.waits ≡ false) y ys a))
+        (none ys (All-tail (λ (s : Slot). waits_bit who s.waits ≡ false) y ys a) (λ n d below. b (suc n) d (omega (arith, below))))

@@ -21,8 +21,8 @@ use Rattle.hv_pool.specs.Key.{same_key}
 use Rattle.hv_pool.specs.declared.seen.Seen.{Seen}
 use Rattle.hv_pool.specs.declared.seen.Seen.TheVariants as seen
 use Rattle.std.proofs.Common.{nat_lt}
-use Rattle.hv_pool.specs.Slots.{Pooled, Holds, is_free, is_cached, is_reading, is_in_hand, is_open, is_numbered, is_away, IsAway, stands, under, seen_at, cached_at, in_hand_at, reading_at, with_wait}
-use Rattle.hv_pool.specs.Moves.{Moves, Arrives, returned, brings, came_after, cached_as, freed, Takes, Asks, answer_of, Starts, started_by}
+use Rattle.hv_pool.specs.Slots.{Pooled, IsPool, Holds, is_free, is_cached, is_reading, is_in_hand, is_open, is_numbered, is_away, IsAway, stands, under, seen_at, cached_at, in_hand_at, reading_at, with_wait}
+use Rattle.hv_pool.specs.Moves.{Moves, Arrives, returned, brings, came_after, cached_as, freed, Takes, Asks, answer_of, started_by}
 use Rattle.hv_pool.specs.declared.slot.Arrival.{Arrival}
 use Rattle.hv_pool.specs.declared.slot.Arrival.TheVariants as arrival
 use Rattle.hv_pool.specs.declared.seen.Ask.{Ask}
@@ -89,7 +89,7 @@ away_is s e = go s.held refl
 pub away_at : (owner : Ptr) (slots : List Slot) (came openings : ℕ) (n : ℕ) → IsInOrder owner slots came openings → 0 < count_by (is_away n) slots → (d : Slot) → Place slots n (get_or slots n d)
 away_at owner slots came openings n o h d =
     let r = find (is_away n) slots h in
-    let p = both _ _ (r.2 d) in
+    let p = both (nat_eq (get_or slots r.0 d).number n) (is_reading (get_or slots r.0 d).held || is_in_hand (get_or slots r.0 d).held) (r.2 d) in
     let numbered : (get_or slots r.0 d).number ≡ r.0 = sym (get_or-map (λ (s : Slot). s.number) slots r.0 d 0 r.1) ∙ ap (λ l. get_or l r.0 0) o.placed ∙ get_or-range_with_len 0 (length slots) r.0 0 r.1 ∙ omega arith in
     let here : r.0 ≡ n = sym numbered ∙ eqb-true _ _ p.0 in
     let a = away_is (get_or slots r.0 d) p.1 in
@@ -201,7 +201,7 @@ arrives_to arrival.Lost old new openings n key frame s v o h is v_is number slot
     record { slot = s; number = m.0; change = m.1; came = came }
 
 -- what asks find
-count_le : {X : Type 0} (test other : X → Bool) (xs : List X) → ((x : X) → test x ≡ true → other x ≡ true) → count_by test xs ≤ count_by other xs
+pub count_le : {X : Type 0} (test other : X → Bool) (xs : List X) → ((x : X) → test x ≡ true → other x ≡ true) → count_by test xs ≤ count_by other xs
 count_le {X} test other xs h = sum_by-le-sum_by (λ x. cond (test x) 1 0) (λ x. cond (other x) 1 0) xs (λ x. go x (test x) refl)
   where
     go : (x : X) (b : Bool) → test x ≡ b → cond (test x) 1 0 ≤ cond (other x) 1 0
@@ -263,14 +263,14 @@ seen_hit p n s key within is mine held_is =
     let u = both (stands s.held) (same_key key s.key) mine in
     seen_is p key true _ _ _ (lt-ltb 0 _ (some_here p.slots n s (cached_at key) within is (ap (λ h. is_cached h && same_key key s.key) held_is ∙ u.1))) refl refl refl
 
-pub seen_busy : (p : Pooled) (n : ℕ) (s : Slot) (key : PageKey) (who : ℕ) → count_by (under key) p.slots ≤ 1 → n < length p.slots → s ≡ get_or p.slots n s → under key s ≡ true → s.held ≡ held.InHand who → seen_at p key ≡ seen.Busy
+seen_busy : (p : Pooled) (n : ℕ) (s : Slot) (key : PageKey) (who : ℕ) → count_by (under key) p.slots ≤ 1 → n < length p.slots → s ≡ get_or p.slots n s → under key s ≡ true → s.held ≡ held.InHand who → seen_at p key ≡ seen.Busy
 unfolding choose
 seen_busy p n s key who one within is mine held_is =
     let u = both (stands s.held) (same_key key s.key) mine in
     seen_is p key false true _ _ (zero_is _ (none_other p.slots n s key is_cached one within is mine cached_stands (ap is_cached held_is)))
     (lt-ltb 0 _ (some_here p.slots n s (in_hand_at key) within is (ap (λ h. is_in_hand h && same_key key s.key) held_is ∙ u.1))) refl refl
 
-pub seen_reading : (p : Pooled) (n : ℕ) (s : Slot) (key : PageKey) (who : ℕ) → count_by (under key) p.slots ≤ 1 → n < length p.slots → s ≡ get_or p.slots n s → under key s ≡ true → s.held ≡ held.Reading who → seen_at p key ≡ seen.Reading
+seen_reading : (p : Pooled) (n : ℕ) (s : Slot) (key : PageKey) (who : ℕ) → count_by (under key) p.slots ≤ 1 → n < length p.slots → s ≡ get_or p.slots n s → under key s ≡ true → s.held ≡ held.Reading who → seen_at p key ≡ seen.Reading
 unfolding choose
 seen_reading p n s key who one within is mine held_is =
     let u = both (stands s.held) (same_key key s.key) mine in
@@ -315,11 +315,15 @@ given_away owner slots came n old v frame within h is e number gone =
           (ap (λ z. z && (is_reading v.held || is_in_hand v.held)) (eq-eqb v.number frame.number (number ∙ sym f.1)) ∙ gone);
     }
 
--- an ask for a page that stands
-pub takes_asks : (owner : Ptr) (slots : List Slot) (came openings n : ℕ) (key : PageKey) (who : ℕ) (old v : Slot) (result : Ask) → IsInOrder owner slots came openings → n < length slots → old ≡ get_or slots n old → under key old ≡ true → Takes old who result v
-    → IsInOrder owner (set slots n v) came (openings - cond (is_open old) 1 0)
-    × Asks (record { owner = owner; slots = slots; came = came }) key who result (record { owner = owner; slots = set slots n v; came = came })
+-- how a pool is left where an ask is so answered, and one place changes
+abbrev pub Answered : Ptr → List Slot → ℕ → ℕ → PageKey → ℕ → Ask → List Slot → Type 0
+Answered owner slots came less key who result later =
+    IsInOrder owner later came less
+    × Asks (record { owner = owner; slots = slots; came = came }) key who result (record { owner = owner; slots = later; came = came })
     × (answer_of result ≡ seen_at (record { owner = owner; slots = slots; came = came }) key)
+
+-- an ask for a page that stands
+takes_asks : (owner : Ptr) (slots : List Slot) (came openings n : ℕ) (key : PageKey) (who : ℕ) (old v : Slot) (result : Ask) → IsInOrder owner slots came openings → n < length slots → old ≡ get_or slots n old → under key old ≡ true → Takes old who result v → Answered owner slots came (openings - cond (is_open old) 1 0) key who result (set slots n v)
 takes_asks owner slots came openings n key who old v (ask.Hit frame) o within is mine t =
     let u = both (stands old.held) (same_key key old.key) mine in
     let r = split_at slots n old v within is in
@@ -364,12 +368,21 @@ takes_asks owner slots came openings n key who old v (ask.Busy other) o within i
     )
 takes_asks owner slots came openings n key who old v (ask.Full frames) o within is mine t = absurd t
 
+-- the place that was found of those that were lent
+abbrev pub FoundUnder : PageKey → List Slot → ℕ → Type 0
+FoundUnder key slots n = (n < length slots) × ((d : Slot) → under key (get_or slots n d) ≡ true)
+
+pub take_found : (owner : Ptr) (slots lent : List Slot) (came openings n : ℕ) (key : PageKey) (who : ℕ) (old v : Slot) (result : Ask) → IsInOrder owner slots came openings → lent ≡ slots → FoundUnder key lent n → old ≡ get_or slots n old → Takes old who result v
+    → Answered owner slots came (openings - cond (is_open old) 1 0) key who result (set slots n v) × (n < length slots) × (under key old ≡ true)
+take_found owner slots lent came openings n key who old v result o same found is t =
+    let there : FoundUnder key slots n = subst (λ (l : List Slot). FoundUnder key l n) same found in
+    let mine : under key old ≡ true = subst (λ z. under key z ≡ true) (sym is) (there.1 old) in
+    (takes_asks owner slots came openings n key who old v result o there.0 is mine t, there.0, mine)
+
 -- an ask that starts a read
-pub start_asks : (owner : Ptr) (slots : List Slot) (came openings n : ℕ) (key : PageKey) (who : ℕ) (old v : Slot) (frame : Framed) → IsInOrder owner slots came openings → n < length slots → old ≡ get_or slots n old → count_by (under key) slots ≡ 0
+start_asks : (owner : Ptr) (slots : List Slot) (came openings n : ℕ) (key : PageKey) (who : ℕ) (old v : Slot) (frame : Framed) → IsInOrder owner slots came openings → n < length slots → old ≡ get_or slots n old → count_by (under key) slots ≡ 0
     → is_open old ≡ true → All (λ s. is_open s ≡ true → old.came ≤ s.came) slots → old.frame ≡ Some frame → v ≡ started_by who key old
-    → IsInOrder owner (set slots n v) came (openings - 1)
-    × Starts (record { owner = owner; slots = slots; came = came }) key who frame (record { owner = owner; slots = set slots n v; came = came })
-    × (seen.Start ≡ seen_at (record { owner = owner; slots = slots; came = came }) key)
+    → Answered owner slots came (openings - 1) key who (ask.Start frame) (set slots n v)
 start_asks owner slots came openings n key who old v frame o within is none opens least frame_is v_is =
     let r = split_at slots n old v within is in
     let shut : is_open v ≡ false = ap is_open v_is in (
@@ -395,6 +408,24 @@ start_asks owner slots came openings n key who old v frame o within is none open
         one : (b : Bool) → cond b 1 0 ≤ 1
         one true = omega arith
         one false = omega arith
+
+-- what is seen of a page that is being read or in a hand
+pub look_found : (p : Pooled) (lent : List Slot) (n : ℕ) (s : Slot) (key : PageKey) → IsPool p → lent ≡ p.slots → FoundUnder key lent n → s ≡ get_or p.slots n s → ((who : ℕ) → s.held ≡ held.Reading who → seen_at p key ≡ seen.Reading) × ((who : ℕ) → s.held ≡ held.InHand who → seen_at p key ≡ seen.Busy)
+look_found p lent n s key pool same found is =
+    let there : FoundUnder key p.slots n = subst (λ (l : List Slot). FoundUnder key l n) same found in
+    let mine : under key s ≡ true = subst (λ z. under key z ≡ true) (sym is) (there.1 s) in
+    (λ who e. seen_reading p n s key who (pool.keys key) there.0 is mine e, λ who e. seen_busy p n s key who (pool.keys key) there.0 is mine e)
+
+-- the place that may be taken first of those that were lent
+abbrev pub FoundOpen : List Slot → ℕ → Type 0
+FoundOpen slots n = (n < length slots) × ((d : Slot) → (is_open (get_or slots n d) ≡ true) × All (λ s. is_open s ≡ true → (get_or slots n d).came ≤ s.came) slots)
+
+pub start_found : (owner : Ptr) (slots lent again : List Slot) (came openings n : ℕ) (key : PageKey) (who : ℕ) (old v : Slot) (frame : Framed) → IsInOrder owner slots came openings → lent ≡ slots → count_by (under key) lent ≡ 0 → again ≡ slots → FoundOpen again n → old ≡ get_or slots n old → old.frame ≡ Some frame → v ≡ started_by who key old
+    → Answered owner slots came (openings - 1) key who (ask.Start frame) (set slots n v)
+start_found owner slots lent again came openings n key who old v frame o same none twice found is frame_is v_is =
+    let there : FoundOpen slots n = subst (λ (l : List Slot). FoundOpen l n) twice found in
+    start_asks owner slots came openings n key who old v frame o there.0 is (subst (λ (l : List Slot). count_by (under key) l ≡ 0) same none)
+    (subst (λ z. is_open z ≡ true) (sym is) (there.1 old).0) (subst (λ (z : Slot). All (λ s. is_open s ≡ true → z.came ≤ s.came) slots) (sym is) (there.1 old).1) frame_is v_is
 
 -- what is read at a place is one thing
 pub read_twice : {X : Type 0} (xs : List X) (n : ℕ) (x y : X) → n < length xs → x ≡ get_or xs n x → y ≡ get_or xs n y → x ≡ y

@@ -1,28 +1,26 @@
-// Where the places are found by their keys: in buckets of cells, as many as places.
-ghost use Rattle.std.specs.Prelude.{◌≡◌, ℕ, ◌+◌, ◌-◌, ◌*◌, ◌<◌, ◌≤◌, ◌^◌, length, get_or, set, IfSome, IfNone, IfOk, vec_len, IsTrue, IsFalse, true, false};
+// Where the places are found by their keys: a chain of places for each bucket, as many buckets as places.
+// The first links are the buckets', each with the first place of its chain; behind them stand the places', each with the next one.
+ghost use Rattle.std.specs.Prelude.{◌≡◌, ℕ, ◌-◌, ◌*◌, ◌<◌, ◌^◌, length, get_or, set, replicate, IfSome, IfNone, IfOk, true};
 ghost use Rattle.std.specs.List.{count_by};
 ghost use Rattle.hv_pool.specs.declared.slot.Slot.{Slot};
 ghost use Rattle.hv_pool.specs.Slots.{under};
-ghost use Rattle.hv_pool.specs.Index.{bucket_of, InBucket, IsIndexed};
+ghost use Rattle.hv_pool.specs.Index.{bucket_of, IsIndexed, IsIndexedBut};
 
 use crate::{PageKey, Slot};
 use std::alloc::{AllocError, Global};
 
-// How many cells a bucket has.
-const WAYS: usize = 16;
-
-// What a cell has that has no place.
+// What the last link of a chain has.
 const NO_PLACE: u32 = u32::MAX;
 
 // What spreads the chunks over the buckets: 2^32 by the golden ratio.
 const SPREAD: u64 = 2_654_435_761;
 
-/// Buckets without a place.
-pub fn empty_cells(alloc: Global, count: usize) -> Result<Vec<u32>, AllocError>
+/// Empty chains for so many places.
+pub fn empty_chains(alloc: Global, count: usize) -> Result<Vec<u32>, AllocError>
     requires { count < 2 ^ 32 }
-    ensures { IfOk result (λ cells. vec_len cells ≡ 16 * count) }
+    ensures { IfOk result (λ links. links.items ≡ replicate (2 * count) (2 ^ 32 - 1)) }
 {
-    vec![in alloc; NO_PLACE; WAYS * count]
+    vec![in alloc; NO_PLACE; 2 * count]
 }
 
 // The bucket of a key, of so many.
@@ -35,110 +33,82 @@ fn bucket_of(key: &PageKey, count: usize) -> usize
     ((u64::from(chunk) * SPREAD + u64::from(page)) % count as u64) as usize
 }
 
-// The place that stands under the key.
-pub fn find_under(slots: &[Slot], cells: &[u32], crowded: bool, key: &PageKey) -> Option<usize>
-    requires { IsIndexed cells.now crowded slots.now }
+/// The place that stands under the key.
+pub fn find_under(slots: &[Slot], links: &[u32], key: &PageKey) -> Option<usize>
+    requires { IsIndexed links.now slots.now }
     ensures found { IfSome result (λ n. (n < length slots.now) × ((d : Slot) → under key.now (get_or slots.now n d) ≡ true)) }
     ensures none { IfNone result (count_by (under key.now) slots.now ≡ 0) }
 {
-    if crowded {
-        return walk_for(slots, key);
-    }
     if slots.is_empty() {
         return None;
     }
-    find_in(slots, cells, bucket_of(key, slots.len()), key)
+    find_in(slots, links, bucket_of(key, slots.len()), key)
 }
 
-// The place that stands under the key, by a walk over all.
-fn walk_for(slots: &[Slot], key: &PageKey) -> Option<usize>
+// The place of the key's bucket that stands under the key.
+fn find_in(slots: &[Slot], links: &[u32], bucket: usize, key: &PageKey) -> Option<usize>
+    requires indexed { IsIndexed links.now slots.now }
+    requires some { 0 < length slots.now }
+    requires bucket { bucket ≡ bucket_of key.now (length slots.now) }
     ensures found { IfSome result (λ n. (n < length slots.now) × ((d : Slot) → under key.now (get_or slots.now n d) ≡ true)) }
     ensures none { IfNone result (count_by (under key.now) slots.now ≡ 0) }
 {
-    for n in 0..slots.len() {
+    let mut at = bucket;
+    for _passed in 0..slots.len() {
+        let n = links[at] as usize;
+        if n >= slots.len() {
+            return None;
+        }
         if slots[n].is_under(key) {
             return Some(n);
         }
+        at = slots.len() + n;
     }
     None
 }
 
-// The place of a bucket that stands under the key.
-fn find_in(slots: &[Slot], cells: &[u32], bucket: usize, key: &PageKey) -> Option<usize>
-    requires { 16 * bucket + 16 ≤ length cells.now }
-    ensures found { IfSome result (λ n. (n < length slots.now) × ((d : Slot) → under key.now (get_or slots.now n d) ≡ true)) }
-    ensures none { IfNone result ((way n : ℕ) (d : Slot) → way < 16 → ((e : ℕ) → get_or cells.now (16 * bucket + way) e ≡ n) → n < length slots.now → under key.now (get_or slots.now n d) ≡ false) }
+// Takes a place out of the chain of a bucket.
+fn unlink(links: &mut [u32], slots: &[Slot], bucket: usize, place: usize)
+    requires indexed { IsIndexed links.old slots.now }
+    requires within { place < length slots.now }
+    requires bucket { (d : Slot) → bucket ≡ bucket_of (get_or slots.now place d).key (length slots.now) }
+    ensures length { length links.new ≡ length links.old }
+    ensures indexed { IsIndexedBut place links.new slots.now }
 {
-    for way in 0..WAYS {
-        let n = cells[WAYS * bucket + way] as usize;
-        if stands_at(slots, n, key) {
-            return Some(n);
+    let mut at = bucket;
+    for _passed in 0..slots.len() {
+        let n = links[at] as usize;
+        if n >= slots.len() {
+            return;
         }
-    }
-    None
-}
-
-// Whether there is a place of this number, and it stands under the key.
-fn stands_at(slots: &[Slot], n: usize, key: &PageKey) -> bool
-    ensures within { IsTrue result → n < length slots.now }
-    ensures under { IsTrue result → (d : Slot) → under key.now (get_or slots.now n d) ≡ true }
-    ensures not { IsFalse result → n < length slots.now → (d : Slot) → under key.now (get_or slots.now n d) ≡ false }
-{
-    match slots.get(n) {
-        Some(slot) => slot.is_under(key),
-        None => false,
-    }
-}
-
-// The cell of a bucket that has this.
-fn find_cell(cells: &[u32], bucket: usize, wanted: u32) -> Option<usize>
-    requires { 16 * bucket + 16 ≤ length cells.now }
-    ensures { IfSome result (λ way. (way < 16) × ((d : ℕ) → get_or cells.now (16 * bucket + way) d ≡ wanted)) }
-{
-    for way in 0..WAYS {
-        if cells[WAYS * bucket + way] == wanted {
-            return Some(way);
+        if n == place {
+            links[at] = links[slots.len() + place];
+            return;
         }
-    }
-    None
-}
-
-// Takes a place out of a bucket.
-fn clear_cell(cells: &mut [u32], bucket: usize, place: u32)
-    requires { 16 * bucket + 16 ≤ length cells.old }
-    ensures length { length cells.new ≡ length cells.old }
-    ensures others { (b m : ℕ) → ¬ (m ≡ place) → InBucket cells.old b m → InBucket cells.new b m }
-{
-    if let Some(way) = find_cell(cells, bucket, place) {
-        cells[WAYS * bucket + way] = NO_PLACE;
+        at = slots.len() + n;
     }
 }
 
-// Puts a place into a bucket. False where there is no room.
-fn fill_cell(cells: &mut [u32], bucket: usize, place: u32) -> bool
-    requires { 16 * bucket + 16 ≤ length cells.old }
-    ensures length { length cells.new ≡ length cells.old }
-    ensures others { (b m : ℕ) → m < 2 ^ 32 - 1 → InBucket cells.old b m → InBucket cells.new b m }
-    ensures put { IsTrue result → InBucket cells.new bucket place }
+// Puts a place that is in no chain at the head of a bucket's.
+fn link(links: &mut [u32], slots: &[Slot], bucket: usize, place: usize)
+    requires indexed { IsIndexedBut place links.old slots.now }
+    requires within { (place < length slots.now) × (bucket < length slots.now) × (length slots.now < 2 ^ 32) }
+    ensures length { length links.new ≡ length links.old }
+    ensures indexed { (v : Slot) → bucket ≡ bucket_of v.key (length slots.now) → IsIndexed links.new (set slots.now place v) }
 {
-    let Some(way) = find_cell(cells, bucket, NO_PLACE) else {
-        return false;
-    };
-    cells[WAYS * bucket + way] = place;
-    true
+    links[slots.len() + place] = links[bucket];
+    links[bucket] = place as u32;
 }
 
-/// A place gets a key. True where a bucket overflowed, now or before.
-pub fn reindex(cells: &mut [u32], crowded: bool, slots: &[Slot], n: usize, key: &PageKey) -> bool
-    requires indexed { IsIndexed cells.old crowded slots.now }
+/// A place gets a key.
+pub fn reindex(links: &mut [u32], slots: &[Slot], n: usize, key: &PageKey)
+    requires indexed { IsIndexed links.old slots.now }
     requires within { n < length slots.now }
     requires short { length slots.now < 2 ^ 32 }
-    ensures length { length cells.new ≡ length cells.old }
-    ensures indexed { (v : Slot) → v.key ≡ key.now → IsIndexed cells.new result (set slots.now n v) }
+    ensures length { length links.new ≡ length links.old }
+    ensures indexed { (v : Slot) → v.key ≡ key.now → IsIndexed links.new (set slots.now n v) }
 {
     let count = slots.len();
-    let place = n as u32;
-    clear_cell(cells, bucket_of(&slots[n].key, count), place);
-    let put = fill_cell(cells, bucket_of(key, count), place);
-    crowded | !put
+    unlink(links, slots, bucket_of(&slots[n].key, count), n);
+    link(links, slots, bucket_of(key, count), n);
 }

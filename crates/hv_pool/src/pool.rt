@@ -10,9 +10,9 @@ ghost use Rattle.hv_pool.specs.Slots.{seen_at, under, is_open, is_reading, is_in
 ghost use Rattle.hv_pool.specs.Moves.{Asks, answer_of, ComesBack, IsLost, Forgets, Takes, Arrives, brings, returned, started_by, cached_as, freed, moved, forgotten};
 ghost use Rattle.hv_pool.specs.declared.slot.Held.{Held};
 
-use crate::index::{empty_cells, find_under, reindex};
+use crate::index::{empty_chains, find_under, reindex};
 use crate::key::same;
-use crate::order::{find_open, first_order, reorder};
+use crate::order::{Node, find_open, find_waited, first_tree, reorder};
 use crate::slot::{Arrival, wait_less, wait_more};
 use crate::{Ask, Held, PageKey, Seen, Slot};
 use hv_frames::Frame;
@@ -26,11 +26,10 @@ use std::snapshot::Snapshot;
 pub struct Pool {
     // By the numbers of their frames.
     slots: Vec<Slot>,
-    // Where they are found by their keys, and whether a bucket of these cells overflowed.
-    cells: Vec<u32>,
-    crowded: bool,
-    // Which of them may be taken first.
-    order: Vec<u64>,
+    // Where they are found by their keys.
+    links: Vec<u32>,
+    // Which of them may be taken first, and where sessions wait.
+    tree: Vec<Node>,
     // How many of them have a frame that may be taken.
     openings: u32,
     // How many pages came back, and one more.
@@ -60,7 +59,7 @@ impl Model for Pool {
 
     ghost view = { λ p. record { owner = owner_of p.mark.value.items; slots = p.slots.items; came = p.came } };
 
-    ghost invariant = { λ p. IsInOrder (owner_of p.mark.value.items) p.slots.items p.came p.openings × HasRoom p.slots.items p.room.items (vec_capacity p.room) × IsIndexed p.cells.items p.crowded p.slots.items × IsOrdered p.order.items p.slots.items };
+    ghost invariant = { λ p. IsInOrder (owner_of p.mark.value.items) p.slots.items p.came p.openings × HasRoom p.slots.items p.room.items (vec_capacity p.room) × IsIndexed p.links.items p.slots.items × IsOrdered p.tree.items p.slots.items };
 }
 
 // A frame that stands under a key is asked for, for a session.
@@ -162,10 +161,10 @@ impl Pool {
         ensures given_back { IfErr result (λ unpooled. unpooled.frames ≡ frames) }
     {
         let mark = Snapshot::of(&frames);
-        let Ok(cells) = empty_cells(alloc, frames.len()) else {
+        let Ok(links) = empty_chains(alloc, frames.len()) else {
             return Err(Unpooled { frames });
         };
-        let Ok(order) = first_order(alloc, frames.len()) else {
+        let Ok(tree) = first_tree(alloc, frames.len()) else {
             return Err(Unpooled { frames });
         };
         let Ok(mut slots) = empty_slots(alloc, frames.len()) else {
@@ -176,9 +175,8 @@ impl Pool {
         Ok(Pool {
             openings: slots.len() as u32,
             slots,
-            cells,
-            crowded: false,
-            order,
+            links,
+            tree,
             came: 1,
             room,
             mark,
@@ -190,12 +188,7 @@ impl Pool {
         ensures told { result ≡ seen_at self.now key.now }
         ensures pool { IsPool self.now }
     {
-        match find_under(
-            self.slots.as_slice(),
-            self.cells.as_slice(),
-            self.crowded,
-            key,
-        ) {
+        match find_under(self.slots.as_slice(), self.links.as_slice(), key) {
             Some(n) => match self.slots[n].held {
                 Held::Free | Held::Cached => Seen::Hit,
                 Held::Reading { .. } => Seen::Reading,
@@ -213,29 +206,18 @@ impl Pool {
         ensures change { Asks self.old key.now who result self.new }
         ensures pool { IsPool self.old }
     {
-        if let Some(n) = find_under(
-            self.slots.as_slice(),
-            self.cells.as_slice(),
-            self.crowded,
-            key,
-        ) {
+        if let Some(n) = find_under(self.slots.as_slice(), self.links.as_slice(), key) {
             self.openings -= openings_of(&self.slots[n]);
             let taken = take_standing(&mut self.slots[n], who);
-            reorder(self.order.as_mut_slice(), self.slots.as_slice(), n);
+            reorder(self.tree.as_mut_slice(), self.slots.as_slice(), n);
             return taken;
         }
-        match find_open(self.slots.as_slice(), self.order.as_slice(), self.openings) {
+        match find_open(self.slots.as_slice(), self.tree.as_slice(), self.openings) {
             Some(n) => {
                 self.openings -= 1;
-                self.crowded = reindex(
-                    self.cells.as_mut_slice(),
-                    self.crowded,
-                    self.slots.as_slice(),
-                    n,
-                    key,
-                );
+                reindex(self.links.as_mut_slice(), self.slots.as_slice(), n, key);
                 let frame = start_in(&mut self.slots[n], key, who);
-                reorder(self.order.as_mut_slice(), self.slots.as_slice(), n);
+                reorder(self.tree.as_mut_slice(), self.slots.as_slice(), n);
                 Ask::Start(frame)
             }
             None => Ask::Full {
@@ -283,7 +265,7 @@ impl Pool {
         let n = frame.number() as usize;
         put_back(&mut self.slots[n], way, key, frame, self.came);
         self.openings += openings_of(&self.slots[n]);
-        reorder(self.order.as_mut_slice(), self.slots.as_slice(), n);
+        reorder(self.tree.as_mut_slice(), self.slots.as_slice(), n);
         self.came = way.came_after(self.came);
     }
 
@@ -293,7 +275,13 @@ impl Pool {
         ensures change { Forgets self.old who self.new }
         ensures pool { IsPool self.old }
     {
-        self.openings = forget_all(self.slots.as_mut_slice(), self.order.as_mut_slice(), who);
+        let openings = self.openings;
+        self.openings = forget_all(
+            self.slots.as_mut_slice(),
+            self.tree.as_mut_slice(),
+            openings,
+            who,
+        );
     }
 
     /// Gives all frames, where none is away.
@@ -305,9 +293,8 @@ impl Pool {
     {
         let Pool {
             slots,
-            cells: _,
-            crowded: _,
-            order: _,
+            links: _,
+            tree: _,
             openings: _,
             came: _,
             room,
@@ -362,23 +349,26 @@ fn fill_all(slots: &mut [Slot], frames: &mut Vec<Frame>)
     }
 }
 
-// Ends all waits of a session, and counts the frames that may be taken then.
-fn forget_all(slots: &mut [Slot], order: &mut [u64], who: u32) -> u32
+// Ends all waits of a session, one after the other, and counts the frames that may be taken then.
+fn forget_all(slots: &mut [Slot], tree: &mut [Node], openings: u32, who: u32) -> u32
     requires who { who < 64 }
     requires short { length slots.old < 2 ^ 32 }
-    requires ordered { IsOrdered order.old slots.old }
+    requires openings { openings ≡ count_by is_open slots.old }
+    requires ordered { IsOrdered tree.old slots.old }
     ensures slots { slots.new ≡ map (forgotten who) slots.old }
     ensures openings { result ≡ count_by is_open slots.new }
-    ensures length { length order.new ≡ length order.old }
-    ensures ordered { IsOrdered order.new slots.new }
+    ensures length { length tree.new ≡ length tree.old }
+    ensures ordered { IsOrdered tree.new slots.new }
 {
-    let mut openings = 0;
-    for n in 0..slots.len() {
+    let mut left = openings;
+    while let Some(n) = find_waited(slots, tree, who) {
+        let before = openings_of(&slots[n]);
         forget_at(&mut slots[n], who);
-        openings += openings_of(&slots[n]);
-        reorder(order, slots, n);
+        let after = openings_of(&slots[n]);
+        left = left - before + after;
+        reorder(tree, slots, n);
     }
-    openings
+    left
 }
 
 // Ends the wait of a session for the page of a place.

@@ -1,6 +1,6 @@
 // A frame's place in a pool.
 ghost use Rattle.std.specs.Prelude.{◌≡◌, ◌<◌, ◌≤◌};
-ghost use Rattle.hv_pool.specs.Slots.{under, is_open, with_wait, without_wait};
+ghost use Rattle.hv_pool.specs.Slots.{under, is_open, waits_bit, with_wait, without_wait};
 ghost use Rattle.hv_pool.specs.Moves.{brings, came_after};
 
 use crate::PageKey;
@@ -87,6 +87,14 @@ impl Arrival {
             Arrival::Lost => came,
         }
     }
+}
+
+/// Whether a session is one of those that wait.
+pub fn has_wait(waits: u64, who: u32) -> bool
+    requires { who < 64 }
+    ensures { result ≡ waits_bit who waits }
+{
+    waits >> who & 1 == 1
 }
 
 /// The waits with one more session's.

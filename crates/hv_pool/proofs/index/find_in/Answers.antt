@@ -1,18 +1,20 @@
-use Rattle.std.proofs.Common.{◌≡◌, ℕ, ◌+◌, ◌*◌, ◌<◌, ◌⊎◌, inl, inr, length, get_or, false, refl, sym, ap, ◌∙◌, subst, arith}
-use Rattle.std.proofs.lemmas.Bool.{cases_eq}
-use Rattle.hv_pool.specs.declared.slot.Slot.{Slot}
+use Rattle.std.proofs.Common.{◌∙◌, refl, sym, ap}
 use Rattle.hv_pool.specs.Slots.{under}
+use Rattle.hv_pool.proofs.Places.{get_or_any}
+use Rattle.hv_pool.proofs.Indexed.{bucket_below, ahead_first, ahead_next, ahead_stops, ahead_ends}
 use Rattle.hv_pool.proofs.index.find_in.Goals as goal
 
--- the cell at `way` has no place under the key either
-pub loop-way-preserved : goal.loop-way-preserved
-loop-way-preserved c = λ way n d below here within. go way n d below here within (cases_eq way c.loop-way.way)
-  where
-    go : (way n : ℕ) (d : Slot) → way < c.loop-way.way + 1 → ((e : ℕ) → get_or c.args.cells.now (16 * c.args.bucket + way) e ≡ n) → n < length c.args.slots.now → (way ≡ c.loop-way.way) ⊎ (way ≡ c.loop-way.way → ⊥) → under c.args.key.now (get_or c.args.slots.now n d) ≡ false
-    go way n d below here within (inl e) =
-        let is : get_or c.args.cells.now (16 * c.args.bucket + c.loop-way.way) 0 ≡ n = ap (λ (k : ℕ). get_or c.args.cells.now (16 * c.args.bucket + k) 0) (sym e) ∙ here 0 in
-        subst (λ (k : ℕ). under c.args.key.now (get_or c.args.slots.now k d) ≡ false) is (c.if-stands_at.ensures.not refl (subst (λ (k : ℕ). k < length c.args.slots.now) (sym is) within) d)
-    go way n d below here within (inr ne) = c.loop-way.invariant way n d (omega (arith, below, ne)) here within
+pub loop-passed-init : goal.loop-passed-init
+loop-passed-init c = ahead_first c.args.links.now c.args.slots.now c.args.key.now c.args.bucket c.requires.indexed c.requires.bucket (bucket_below c.args.bucket _ c.args.key.now c.requires.bucket c.requires.some)
+
+pub returns-then-n-slots-clause-none : goal.returns-then-n-slots-clause-none
+returns-then-n-slots-clause-none c = ahead_stops c.args.links.now c.args.slots.now c.args.key.now c.loop-passed.at c.loop-passed._passed c.loop-passed.invariant c.if-n-slots.true
+
+-- the place at the link doesn't stand under the key
+pub loop-passed-preserved : goal.loop-passed-preserved
+loop-passed-preserved c =
+    ahead_next c.args.links.now c.args.slots.now c.args.key.now c.loop-passed.at c.loop-passed._passed _ c.loop-passed.invariant refl c.if-n-slots.false
+    (λ d. ap (under c.args.key.now) (get_or_any c.args.slots.now _ d c.index-slots-n.result c.if-n-slots.false ∙ sym c.index-slots-n.is) ∙ sym c.is_under.ensures ∙ c.if-is_under.false)
 
 pub returns-clause-none : goal.returns-clause-none
-returns-clause-none c = λ way n d below here within. c.loop-way.invariant way n d (omega (arith, below, c.loop-way-test.false)) here within
+returns-clause-none c = ahead_ends c.args.links.now c.args.slots.now c.args.key.now c.loop-passed.at c.loop-passed._passed c.loop-passed.invariant c.loop-passed-test.false

@@ -1,12 +1,13 @@
 use Rattle.std.proofs.Common.{◌≡◌, ◌*◌, ◌-◌, ◌<◌, ◌≤◌, get_or}
+use Rattle.hv_pool.specs.Order.{no_node}
 use Rattle.hv_pool.proofs.order.first_leaf.Given as goal
 
--- `node` has what the root has
+-- `node` has the root's turn
 abbrev pub invariant-loop-node : goal.invariant-loop-node
 invariant-loop-node l = record {
   some : 1 ≤ l.node;
   below : l.node < 2 * l.count;
-  same : get_or l.order l.node 0 ≡ get_or l.order 1 0;
+  same : (get_or l.tree l.node no_node).turn ≡ (get_or l.tree 1 no_node).turn;
 }
 
 abbrev pub decreases-loop-node : goal.decreases-loop-node

@@ -1,4 +1,4 @@
-use Rattle.std.proofs.Common.{◌≡◌, ℕ, List, ◌++◌, take, drop, length, map, sym, ap, subst, ◌∙◌, arith}
+use Rattle.std.proofs.Common.{◌≡◌, List, ◌++◌, take, drop, length, map, sym, ap, subst, ◌∙◌, arith}
 use Rattle.std.specs.List.{count_by}
 use Rattle.std.proofs.lemmas.List.{take_at, length-map}
 use Rattle.hv_pool.specs.declared.slot.Slot.{Slot}
@@ -7,6 +7,7 @@ use Rattle.hv_pool.specs.Moves.{forgotten}
 use Rattle.hv_pool.specs.Made.{owner_of}
 use Rattle.hv_pool.specs.Shape.{IsInOrder}
 use Rattle.hv_pool.specs.Index.{IsIndexed}
+use Rattle.hv_pool.specs.declared.order.Node.{Node}
 use Rattle.hv_pool.specs.Order.{IsOrdered}
 use Rattle.hv_pool.proofs.Ordered.{ordered_back}
 use Rattle.hv_pool.proofs.Indexed.{forget_index}
@@ -21,12 +22,12 @@ invariant_of-self c =
     let long = ap length is ∙ length-map slots (forgotten c.args.who) in
     let whole = sym (take_at new _ c.self.inside.slots.len (omega (arith, long, c.self.inside.slots.ok.0))) in
     let back = sym is ∙ whole in
-    let order : List ℕ = c.forget_all-self-inside.new.order in
+    let tree : List Node = c.forget_all-self-inside.new.tree in
     let opens = c.forget_all-self-inside.ensures.openings ∙ ap (count_by is_open) is in (
       subst (λ (l : List Slot). IsInOrder (owner_of c.self.inside.mark.value.items) l c.self.inside.came c.forget_all-self-inside.result) back
           (forgets_order _ slots c.self.inside.came c.self.inside.openings c.forget_all-self-inside.result c.args.who c.self.invariant.0 opens),
       record { none = c.self.invariant.1.none; wide = omega (arith, c.self.invariant.1.wide, ap length back, length-map slots (forgotten c.args.who)) },
-      subst (λ (l : List Slot). IsIndexed c.self.inside.cells.items c.self.inside.crowded l) back (forget_index c.self.inside.cells.items c.self.inside.crowded slots c.args.who c.self.invariant.2),
-      subst (λ (l : List Slot). IsOrdered (take c.self.inside.order.len (order ++ drop (length order) c.self.inside.order.items)) l) whole
-          (ordered_back c.self.inside.order.items order c.self.inside.order.len new (c.forget_all-self-inside.ensures.length ∙ ap length c.as_mut_slice-2.ensures.value) c.self.inside.order.ok.0 c.forget_all-self-inside.ensures.ordered),
+      subst (λ (l : List Slot). IsIndexed c.self.inside.links.items l) back (forget_index c.self.inside.links.items slots c.args.who c.self.invariant.2),
+      subst (λ (l : List Slot). IsOrdered (take c.self.inside.tree.len (tree ++ drop (length tree) c.self.inside.tree.items)) l) whole
+          (ordered_back c.self.inside.tree.items tree c.self.inside.tree.len new (c.forget_all-self-inside.ensures.length ∙ ap length c.as_mut_slice-2.ensures.value) c.self.inside.tree.ok.0 c.forget_all-self-inside.ensures.ordered),
     )
