@@ -78,7 +78,7 @@ moves_keep old new before after m test keeps = omega (arith, moves_weigh old new
 pub forgets_keep : (old new : Pooled) (who : ℕ) → Forgets old who new → (test : Slot → Bool) → ((s : Slot) → test (forgotten who s) ≡ test s) → count_by test new.slots ≡ count_by test old.slots
 forgets_keep old new who f test same = ap (count_by test) f.slots ∙ count_forgotten who test old.slots same
 
-and_false : (b : Bool) → b && false ≡ false
+pub and_false : (b : Bool) → b && false ≡ false
 and_false true = refl
 and_false false = refl
 

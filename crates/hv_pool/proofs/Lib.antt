@@ -4,3 +4,4 @@ pub mod Laws
 pub mod Chains
 pub mod Indexed
 pub mod Ordered
+pub mod Others

@@ -125,6 +125,10 @@ is_owed s = is_cached s.held && not (nat_eq s.waits 0)
 abbrev pub is_gone : Slot → Bool
 is_gone s = is_reading s.held || is_in_hand s.held
 
+-- the session has its frame: its page is read for the session, or is in the session's hand
+abbrev pub is_held_by : ℕ → Slot → Bool
+is_held_by who s = is_reading_for who s.held || is_in_hand_of who s.held
+
 -- the frame with this number is away
 abbrev pub is_away : ℕ → Slot → Bool
 is_away n s = nat_eq s.number n && (is_reading s.held || is_in_hand s.held)

@@ -1,8 +1,12 @@
 // The laws of pools, which callers cite by this contract.
-ghost use Rattle.std.specs.Prelude.{◌≡◌, ℕ, ◌+◌, ◌<◌, ◌≤◌, Bool, true, length};
+ghost use Rattle.std.specs.Prelude.{◌≡◌, ℕ, ◌+◌, ◌<◌, ◌≤◌, Bool, true, false, ◌&&◌, nat_eq, length};
 ghost use Rattle.std.specs.List.{sum_by, count_by};
-ghost use Rattle.hv_pool.specs.Slots.{Pooled, seen_at, is_gone, is_owed, waits_at};
-ghost use Rattle.hv_pool.specs.Moves.{Moves, Forgets, forgotten};
+ghost use Rattle.hv_frames.specs.Frames.{Framed};
+ghost use Rattle.hv_pool.specs.Key.{same_key};
+ghost use Rattle.hv_pool.specs.Slots.{Pooled, IsPool, seen_at, under, is_gone, is_owed, is_held_by, waits_at};
+ghost use Rattle.hv_pool.specs.Moves.{Moves, Asks, Arrives, brings, Forgets, joined_by, forgotten};
+ghost use Rattle.hv_pool.specs.declared.slot.Arrival.{Arrival};
+ghost use Rattle.hv_pool.specs.declared.seen.Ask.{Ask};
 ghost use Rattle.hv_pool.specs.declared.key.PageKey.{PageKey};
 ghost use Rattle.hv_pool.specs.declared.seen.Seen.TheVariants as seen;
 ghost use Rattle.hv_pool.specs.declared.slot.Slot.{Slot};
@@ -20,4 +24,16 @@ pub fn pool_laws()
     ensures forgets { (old new : Pooled) (who : ℕ) → Forgets old who new → (test : Slot → Bool) → ((s : Slot) → test (forgotten who s) ≡ test s) → count_by test new.slots ≡ count_by test old.slots }
     ensures waits_end { (old new : Pooled) (who : ℕ) → who < 64 → Forgets old who new → (key : PageKey) → count_by (waits_at who key) new.slots ≡ 0 }
     ensures waits_stay { (old new : Pooled) (who other : ℕ) → who < 64 → other < 64 → ¬ (other ≡ who) → Forgets old who new → (key : PageKey) → count_by (waits_at other key) new.slots ≡ count_by (waits_at other key) old.slots }
+{}
+
+/// What the calls of one session leave of another's. Its waits stay at an ask, for each page. So do the frames that are read for it or that it has in
+/// hand, in whatever is counted of them but for who waits for their pages too; and at the coming back of a frame that it doesn't have.
+/// Where a frame comes back with the page for which it was away, all waits of all sessions stay; else all but those for the page under which it stood.
+/// This project's own. It does nothing: its contract is these laws.
+pub fn session_laws()
+    ensures asks_leave_waits { (old new : Pooled) (key : PageKey) (who : ℕ) (answer : Ask) (other : ℕ) → who < 64 → other < 64 → ¬ (other ≡ who) → Asks old key who answer new → (k : PageKey) → count_by (waits_at other k) new.slots ≡ count_by (waits_at other k) old.slots }
+    ensures asks_leave_frames { (old new : Pooled) (key : PageKey) (who : ℕ) (answer : Ask) (other : ℕ) → ¬ (other ≡ who) → Asks old key who answer new → (weight : Slot → ℕ) → ((s : Slot) → is_held_by other s ≡ false → weight s ≡ 0) → ((s : Slot) → weight (joined_by who s) ≡ weight s) → sum_by weight new.slots ≡ sum_by weight old.slots }
+    ensures arrivals_leave_frames { (way : Arrival) (old new : Pooled) (key : PageKey) (frame : Framed) (who other : ℕ) → IsPool old → Arrives way old key frame new → ¬ (other ≡ who) → 0 < count_by (λ s. nat_eq s.number frame.number && is_held_by who s) old.slots → (weight : Slot → ℕ) → ((s : Slot) → is_held_by other s ≡ false → weight s ≡ 0) → sum_by weight new.slots ≡ sum_by weight old.slots }
+    ensures arrivals_keep_waits { (way : Arrival) (old new : Pooled) (key : PageKey) (frame : Framed) → IsPool old → Arrives way old key frame new → 0 < count_by (λ s. nat_eq s.number frame.number && (brings way s.held && same_key key s.key)) old.slots → (who : ℕ) (k : PageKey) → count_by (waits_at who k) new.slots ≡ count_by (waits_at who k) old.slots }
+    ensures arrivals_leave_waits { (way : Arrival) (old new : Pooled) (key : PageKey) (frame : Framed) → Arrives way old key frame new → (who : ℕ) (k : PageKey) → count_by (λ s. nat_eq s.number frame.number && under k s) old.slots ≡ 0 → count_by (waits_at who k) new.slots ≡ count_by (waits_at who k) old.slots }
 {}
