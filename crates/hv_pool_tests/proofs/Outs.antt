@@ -1,13 +1,15 @@
 -- Frames go out of a pool, and come back.
-use Rattle.std.proofs.Common.{◌≡◌, ◌<◌, ◌≤◌, ℕ, Bool, true, false, cond, ◌&&◌, ◌||◌, nat_eq, if◌then◌else◌, List, [], ◌∷◌, ◌++◌, length, get_or, refl, sym, ap, ◌∙◌, subst, arith, true≢false, IsPermutation, Some, map}
+use Rattle.std.proofs.Common.{◌≡◌, ◌+◌, ◌<◌, ◌≤◌, ℕ, zero, suc, Bool, true, false, cond, ◌&&◌, ◌||◌, nat_eq, if◌then◌else◌, List, [], ◌∷◌, ◌++◌, length, get_or, refl, sym, ap, ◌∙◌, subst, arith, true≢false, IsPermutation, Some, None, map, replicate}
 use Rattle.std.specs.Prelude.{All, IfSome}
 use Rattle.std.specs.List.{count_by, range_with_len}
 use Rattle.std.proofs.lemmas.Bool.{eq-eqb}
 use Rattle.std.proofs.lemmas.List.{length-append, length-map}
-use Rattle.std.proofs.lemmas.List.Elements.{All-head, All-push, All-pop, All-map}
+use Rattle.std.proofs.lemmas.List.FromFn.{length-range_with_len}
+use Rattle.std.specs.declared.option.Option.{Option}
+use Rattle.std.proofs.lemmas.List.Elements.{All-head, All-tail, All-cons, All-push, All-pop, All-map}
 use Rattle.std.proofs.lemmas.List.Sums.{sum_by-append, sum_by-cons, sum_by-le-sum_by, count_by-le-length}
-use Rattle.std.proofs.lemmas.List.Sorted.{All-permutation, length_permutation, sum_by-IsPermutation, IsPermutation-refl}
-use Rattle.hv_frames.specs.Frames.{Framed, Owned, AreAll, fresh_frame, fresh_frames}
+use Rattle.std.proofs.lemmas.List.Sorted.{All-permutation, length_permutation, sum_by-IsPermutation, IsPermutation-sym}
+use Rattle.hv_frames.specs.Frames.{Framed, Owned, AreAll, fresh_frame, fresh_frames, zero_bytes}
 use Rattle.hv_pool.specs.declared.key.PageKey.{PageKey}
 use Rattle.hv_pool.specs.declared.slot.Held.{Held}
 use Rattle.hv_pool.specs.declared.slot.Held.TheVariants as held
@@ -15,11 +17,12 @@ use Rattle.hv_pool.specs.declared.slot.Slot.{Slot}
 use Rattle.hv_pool.specs.Key.{same_key}
 use Rattle.hv_pool.specs.Slots.{Pooled, IsPool, IsAway, Holds, is_free, is_cached, is_reading, is_in_hand, is_open, is_gone, is_away, is_numbered}
 use Rattle.hv_pool.specs.Moves.{Moves, Hits, Starts, Joins, ComesBack, IsLost, Forgets, cached_as, freed, forgotten}
-use Rattle.hv_pool.specs.Made.{IsMade, owner_of}
+use Rattle.sha2.specs.Sha256.{sha256}
+use Rattle.hv_pool.specs.Made.{IsMade, owner_of, here}
 use Rattle.hv_pool.proofs.Laws.{moves_weigh, forgets_keep}
-use Rattle.hv_pool.proofs.Made.{none_pass, length_numbers}
+use Rattle.hv_pool.proofs.Made.{none_pass, length_numbers, at_here}
 use Rattle.hv_pool.proofs.Places.{weighed, both}
-use Rattle.hv_pool_tests.specs.Out.{has_number, AreOut}
+use Rattle.hv_pool_tests.specs.Out.{has_number, HasPage, AreOut}
 use denote.RawPtr.{Ptr}
 
 abbrev one : Bool → ℕ
@@ -68,10 +71,22 @@ away_as n s frame gone number = ap (λ z. nat_eq s.number n && z) gone ∙ and_t
 same_length : (old new : Pooled) (before after : Slot) → Moves old new before after → length new.slots ≡ length old.slots
 same_length old new before after m = omega (arith, length_permutation old.slots (before ∷ m.rest) m.were, length_permutation new.slots (after ∷ m.rest) m.are)
 
+-- the frame that stands in the place has a page of the digest
+abbrev Paged : List ℕ → Slot → Type 0
+Paged digest s = IfSome s.frame (HasPage digest)
+
+-- what is so of all places stays so where it is so of the one that changes
+all_moved : (P : Slot → Type 0) (old new : Pooled) (before after : Slot) → Moves old new before after → P after → All P old.slots → All P new.slots
+all_moved P old new before after m fits all = All-permutation P (after ∷ m.rest) new.slots (IsPermutation-sym new.slots (after ∷ m.rest) m.are) (All-cons P after m.rest fits (All-tail P before m.rest (All-permutation P old.slots (before ∷ m.rest) m.were all)))
+
+-- the frame that went out last has a page of the digest
+pub last_page : (owned : Owned) (digest : List ℕ) (p : Pooled) (frames : List Framed) (frame : Framed) → AreOut owned digest p (frames ++ frame ∷ []) → sha256 frame.bytes ≡ digest
+last_page owned digest p frames frame out = (All-pop (HasPage digest) (frames ++ frame ∷ []) frames (Some frame) refl out.away).1
+
 -- a frame goes out
-goes_out : (owned : Owned) (old new : Pooled) (before after : Slot) (frames : List Framed) (frame : Framed) → AreOut owned old frames → Moves old new before after
-    → is_gone before ≡ false → is_gone after ≡ true → after.number ≡ frame.number → frame.owner ≡ new.owner → AreOut owned new (frames ++ frame ∷ [])
-goes_out owned old new before after frames frame out m here gone number own =
+goes_out : (owned : Owned) (digest : List ℕ) (old new : Pooled) (before after : Slot) (frames : List Framed) (frame : Framed) → AreOut owned digest old frames → Moves old new before after
+    → is_gone before ≡ false → is_gone after ≡ true → after.number ≡ frame.number → frame.owner ≡ new.owner → before.frame ≡ Some frame → after.frame ≡ None → AreOut owned digest new (frames ++ frame ∷ [])
+goes_out owned digest old new before after frames frame out m here gone number own was none =
     let long = same_length old new before after m in
     record {
       owner = m.owner ∙ out.owner;
@@ -87,12 +102,14 @@ goes_out owned old new before after frames frame out m here gone number own =
         sum_by-cons (λ f. cond (has_number n f) 1 0) frame [],
       );
       count = omega (arith, out.count, length-append frames (frame ∷ []), moves_weigh old new before after m (λ s. cond (is_gone s) 1 0), ap {B = ℕ} (λ z. cond z 1 0) here, ap {B = ℕ} (λ z. cond z 1 0) gone);
+      here = all_moved (Paged digest) old new before after m (subst (λ r. IfSome r (HasPage digest)) (sym none) tt) out.here;
+      away = All-push (HasPage digest) frames frame out.away (subst (λ r. IfSome r (HasPage digest)) was (All-head (Paged digest) before m.rest (All-permutation (Paged digest) old.slots (before ∷ m.rest) m.were out.here)));
     }
 
 -- the frame that went out last comes back
-comes_back : (owned : Owned) (old new : Pooled) (before after : Slot) (frames : List Framed) (frame : Framed) → AreOut owned old (frames ++ frame ∷ []) → IsPool old → IsAway old frame → Moves old new before after
-    → before.number ≡ frame.number → is_gone after ≡ false → AreOut owned new frames
-comes_back owned old new before after frames frame out pool away m number here =
+comes_back : (owned : Owned) (digest : List ℕ) (old new : Pooled) (before after : Slot) (frames : List Framed) (frame : Framed) → AreOut owned digest old (frames ++ frame ∷ []) → IsPool old → IsAway old frame → Moves old new before after
+    → before.number ≡ frame.number → is_gone after ≡ false → after.frame ≡ Some frame → AreOut owned digest new frames
+comes_back owned digest old new before after frames frame out pool away m number here is =
     let long = same_length old new before after m in
     let gone : is_gone before ≡ true = came_from old frame before m.rest pool away number m.were in
     record {
@@ -109,11 +126,13 @@ comes_back owned old new before after frames frame out pool away m number here =
         sum_by-cons (λ f. cond (has_number n f) 1 0) frame [],
       );
       count = omega (arith, out.count, length-append frames (frame ∷ []), moves_weigh old new before after m (λ s. cond (is_gone s) 1 0), ap {B = ℕ} (λ z. cond z 1 0) here, ap {B = ℕ} (λ z. cond z 1 0) gone);
+      here = all_moved (Paged digest) old new before after m (subst (λ r. IfSome r (HasPage digest)) (sym is) (last_page owned digest old frames frame out)) out.here;
+      away = (All-pop (HasPage digest) (frames ++ frame ∷ []) frames (Some frame) refl out.away).0;
     }
 
 -- the frame that went out last is away
-pub last_away : (owned : Owned) (p : Pooled) (frames : List Framed) (frame : Framed) → AreOut owned p (frames ++ frame ∷ []) → IsAway p frame
-last_away owned p frames frame out = record {
+pub last_away : (owned : Owned) (digest : List ℕ) (p : Pooled) (frames : List Framed) (frame : Framed) → AreOut owned digest p (frames ++ frame ∷ []) → IsAway p frame
+last_away owned digest p frames frame out = record {
   owner = (All-pop (λ (f : Framed). f.owner ≡ p.owner) (frames ++ frame ∷ []) frames (Some frame) refl out.its).1;
   away = omega (
     arith,
@@ -124,13 +143,9 @@ last_away owned p frames frame out = record {
   );
 }
 
--- another one with its number and its owner, as it is once it is written to
-pub last_as : (p : Pooled) (frame other : Framed) → other.owner ≡ frame.owner → other.number ≡ frame.number → IsAway p frame → IsAway p other
-last_as p frame other owner number away = record { owner = owner ∙ away.owner; away = subst (λ (k : ℕ). 0 < count_by (is_away k) p.slots) (sym number) away.away }
-
 -- there was room for it
-pub has_room : (owned : Owned) (p : Pooled) (frames : List Framed) (frame : Framed) → AreOut owned p (frames ++ frame ∷ []) → length frames < owned.count
-has_room owned p frames frame out = omega (arith, out.count, out.all, length-append frames (frame ∷ []), count_by-le-length is_gone p.slots)
+pub has_room : (owned : Owned) (digest : List ℕ) (p : Pooled) (frames : List Framed) (frame : Framed) → AreOut owned digest p (frames ++ frame ∷ []) → length frames < owned.count
+has_room owned digest p frames frame out = omega (arith, out.count, out.all, length-append frames (frame ∷ []), count_by-le-length is_gone p.slots)
 
 here_of : (h : Held) → is_reading h || is_in_hand h ≡ false → (is_free h || is_cached h) ≡ true
 here_of held.Free e = refl
@@ -145,10 +160,10 @@ frame_number p s rest frame pool were home is =
     let f = h.here (here_of s.held home) in
     sym (subst (λ r. IfSome r (λ g. g.number ≡ s.number)) (sym f.1 ∙ is) f.3)
 
-pub hit_out : (owned : Owned) (old new : Pooled) (key : PageKey) (who : ℕ) (frame : Framed) (frames : List Framed) → AreOut owned old frames → IsPool old → Hits old key who frame new → AreOut owned new (frames ++ frame ∷ [])
-hit_out owned old new key who frame frames out pool hit =
+pub hit_out : (owned : Owned) (digest : List ℕ) (old new : Pooled) (key : PageKey) (who : ℕ) (frame : Framed) (frames : List Framed) → AreOut owned digest old frames → IsPool old → Hits old key who frame new → AreOut owned digest new (frames ++ frame ∷ [])
+hit_out owned digest old new key who frame frames out pool hit =
     let home : is_gone hit.slot ≡ false = ap (λ h. is_reading h || is_in_hand h) hit.is in
-    goes_out owned old new hit.slot _ frames frame out hit.change home refl (frame_number old hit.slot hit.change.rest frame pool hit.change.were home hit.frame_is) hit.away.owner
+    goes_out owned digest old new hit.slot _ frames frame out hit.change home refl (frame_number old hit.slot hit.change.rest frame pool hit.change.were home hit.frame_is) hit.away.owner hit.frame_is refl
 
 open_home : (s : Slot) → is_open s ≡ true → is_gone s ≡ false
 open_home s e = go s.held refl
@@ -159,14 +174,14 @@ open_home s e = go s.held refl
     go (held.Reading who) q = absurd (true≢false (sym e ∙ ap (λ x. is_free x || (is_cached x && nat_eq s.waits 0)) q))
     go (held.InHand who) q = absurd (true≢false (sym e ∙ ap (λ x. is_free x || (is_cached x && nat_eq s.waits 0)) q))
 
-pub start_out : (owned : Owned) (old new : Pooled) (key : PageKey) (who : ℕ) (frame : Framed) (frames : List Framed) → AreOut owned old frames → IsPool old → Starts old key who frame new → AreOut owned new (frames ++ frame ∷ [])
-start_out owned old new key who frame frames out pool start =
+pub start_out : (owned : Owned) (digest : List ℕ) (old new : Pooled) (key : PageKey) (who : ℕ) (frame : Framed) (frames : List Framed) → AreOut owned digest old frames → IsPool old → Starts old key who frame new → AreOut owned digest new (frames ++ frame ∷ [])
+start_out owned digest old new key who frame frames out pool start =
     let home = open_home start.slot start.is in
-    goes_out owned old new start.slot _ frames frame out start.change home refl (frame_number old start.slot start.change.rest frame pool start.change.were home start.frame_is) start.away.owner
+    goes_out owned digest old new start.slot _ frames frame out start.change home refl (frame_number old start.slot start.change.rest frame pool start.change.were home start.frame_is) start.away.owner start.frame_is refl
 
 -- one more session waits, and each frame stays where it is
-pub join_out : (owned : Owned) (old new : Pooled) (key : PageKey) (who other : ℕ) (frames : List Framed) → AreOut owned old frames → Joins old key who other new → AreOut owned new frames
-join_out owned old new key who other frames out join =
+pub join_out : (owned : Owned) (digest : List ℕ) (old new : Pooled) (key : PageKey) (who other : ℕ) (frames : List Framed) → AreOut owned digest old frames → Joins old key who other new → AreOut owned digest new frames
+join_out owned digest old new key who other frames out join =
     let long = same_length old new join.slot _ join.change in
     record {
       owner = join.change.owner ∙ out.owner;
@@ -174,21 +189,24 @@ join_out owned old new key who other frames out join =
       its = subst (λ (o : Ptr). All (λ (f : Framed). f.owner ≡ o) frames) (sym join.change.owner) out.its;
       numbers = λ n. omega (arith, out.numbers n, moves_weigh old new join.slot _ join.change (λ s. cond (is_away n s) 1 0));
       count = omega (arith, out.count, moves_weigh old new join.slot _ join.change (λ s. cond (is_gone s) 1 0));
+      here = all_moved (Paged digest) old new join.slot _ join.change (All-head (Paged digest) join.slot join.change.rest (All-permutation (Paged digest) old.slots (join.slot ∷ join.change.rest) join.change.were out.here)) out.here;
+      away = out.away;
     }
 
-pub back_out : (away : Held → Bool) (owned : Owned) (old new : Pooled) (key : PageKey) (frames : List Framed) (frame other : Framed) → AreOut owned old (frames ++ frame ∷ []) → IsPool old → ComesBack away old key other new → other.number ≡ frame.number → AreOut owned new frames
-back_out away owned old new key frames frame other out pool back number =
-    comes_back owned old new back.slot _ frames frame out pool (last_away owned old frames frame out) back.change (back.number ∙ number) (home (away back.slot.held && same_key key back.slot.key))
+pub back_out : (away : Held → Bool) (owned : Owned) (digest : List ℕ) (old new : Pooled) (key : PageKey) (frames : List Framed) (frame : Framed) → AreOut owned digest old (frames ++ frame ∷ []) → IsPool old → ComesBack away old key frame new → AreOut owned digest new frames
+back_out away owned digest old new key frames frame out pool back =
+    let h = home (away back.slot.held && same_key key back.slot.key) in
+    comes_back owned digest old new back.slot _ frames frame out pool (last_away owned digest old frames frame out) back.change back.number h.0 h.1
   where
-    home : (b : Bool) → is_gone (if b then cached_as old.came other back.slot else freed other back.slot) ≡ false
-    home true = refl
-    home false = refl
+    home : (b : Bool) → (is_gone (if b then cached_as old.came frame back.slot else freed frame back.slot) ≡ false) × ((if b then cached_as old.came frame back.slot else freed frame back.slot).frame ≡ Some frame)
+    home true = (refl, refl)
+    home false = (refl, refl)
 
-pub lost_out : (owned : Owned) (old new : Pooled) (frames : List Framed) (frame : Framed) → AreOut owned old (frames ++ frame ∷ []) → IsPool old → IsLost old frame new → AreOut owned new frames
-lost_out owned old new frames frame out pool lost = comes_back owned old new lost.slot _ frames frame out pool (last_away owned old frames frame out) lost.change lost.number refl
+pub lost_out : (owned : Owned) (digest : List ℕ) (old new : Pooled) (frames : List Framed) (frame : Framed) → AreOut owned digest old (frames ++ frame ∷ []) → IsPool old → IsLost old frame new → AreOut owned digest new frames
+lost_out owned digest old new frames frame out pool lost = comes_back owned digest old new lost.slot _ frames frame out pool (last_away owned digest old frames frame out) lost.change lost.number refl refl
 
-pub forget_out : (owned : Owned) (old new : Pooled) (who : ℕ) (frames : List Framed) → AreOut owned old frames → Forgets old who new → AreOut owned new frames
-forget_out owned old new who frames out forgets =
+pub forget_out : (owned : Owned) (digest : List ℕ) (old new : Pooled) (who : ℕ) (frames : List Framed) → AreOut owned digest old frames → Forgets old who new → AreOut owned digest new frames
+forget_out owned digest old new who frames out forgets =
     let long : length new.slots ≡ length old.slots = ap length forgets.slots ∙ length-map old.slots (forgotten who) in
     record {
       owner = forgets.owner ∙ out.owner;
@@ -196,37 +214,52 @@ forget_out owned old new who frames out forgets =
       its = subst (λ (o : Ptr). All (λ (f : Framed). f.owner ≡ o) frames) (sym forgets.owner) out.its;
       numbers = λ n. out.numbers n ∙ sym (forgets_keep old new who forgets (is_away n) (λ s. refl));
       count = out.count ∙ sym (forgets_keep old new who forgets is_gone (λ s. refl));
+      here = subst (λ (l : List Slot). All (Paged digest) l) (sym forgets.slots) (All-map (Paged digest) (forgotten who) old.slots out.here);
+      away = out.away;
     }
 
 -- the frames that are away in another order
-pub any_order : (owned : Owned) (p : Pooled) (frames others : List Framed) → AreOut owned p frames → IsPermutation frames others → AreOut owned p others
-any_order owned p frames others out same = record {
+pub any_order : (owned : Owned) (digest : List ℕ) (p : Pooled) (frames others : List Framed) → AreOut owned digest p frames → IsPermutation frames others → AreOut owned digest p others
+any_order owned digest p frames others out same = record {
   owner = out.owner;
   all = out.all;
   its = All-permutation (λ (f : Framed). f.owner ≡ p.owner) frames others same out.its;
   numbers = λ n. omega (arith, out.numbers n, sum_by-IsPermutation (λ f. cond (has_number n f) 1 0) frames others same);
   count = omega (arith, out.count, length_permutation frames others same);
+  here = out.here;
+  away = All-permutation (HasPage digest) frames others same out.away;
 }
+
+-- the digest of a fresh frame's bytes
+pub fresh_page : (bytes digest : List ℕ) → bytes ≡ replicate 4096 0 → digest ≡ sha256 bytes → sha256 zero_bytes ≡ digest
+unfolding zero_bytes
+fresh_page bytes digest is taken = sym (taken ∙ ap sha256 is)
 
 -- in a pool that is made no frame is away
-pub made_out : (owned : Owned) (frames : List Framed) (p : Pooled) → IsMade frames p → frames ≡ fresh_frames owned.name 3 → owned.count ≡ 3 → AreOut owned p []
-made_out owned frames p made fresh count =
-    let long : length p.slots ≡ 3 = length_numbers p.slots (length frames) made.filled.numbers ∙ ap length fresh in
+pub made_out : (owned : Owned) (digest : List ℕ) (n : ℕ) (frames : List Framed) (p : Pooled) → IsMade frames p → 1 ≤ n → frames ≡ fresh_frames owned.name n → owned.count ≡ n → sha256 zero_bytes ≡ digest → AreOut owned digest p []
+made_out owned digest n frames p made some fresh count page =
+    let long : length p.slots ≡ n = omega (arith, length_numbers p.slots (length frames) made.filled.numbers, ap length fresh, length-map (range_with_len 0 n) (fresh_frame owned.name), length-range_with_len 0 n) in
     record {
-      owner = made.owner ∙ ap owner_of fresh;
+      owner = made.owner ∙ ap owner_of fresh ∙ first_owner n some;
       all = long ∙ sym count;
       its = λ k d within. absurd (omega (arith, within));
-      numbers = λ n. sym (none_pass (is_away n) p.slots (λ k d within. not_away n (get_or p.slots k d) (ap (λ h. is_reading h || is_in_hand h) (made.filled.fresh k d within).held)));
+      numbers = λ m. sym (none_pass (is_away m) p.slots (λ k d within. not_away m (get_or p.slots k d) (ap (λ h. is_reading h || is_in_hand h) (made.filled.fresh k d within).held)));
       count = sym (none_pass is_gone p.slots (λ k d within. ap (λ h. is_reading h || is_in_hand h) (made.filled.fresh k d within).held));
+      here = λ k d within. paged k d within (get_or p.slots k d).frame refl;
+      away = λ k d within. absurd (omega (arith, within));
     }
+  where
+    first_owner : (m : ℕ) → 1 ≤ m → owner_of (fresh_frames owned.name m) ≡ owned.name
+    first_owner zero low = absurd (omega (arith, low))
+    first_owner (suc m) low = refl
+
+    all_pages : All (HasPage digest) (here p.slots)
+    all_pages = All-permutation (HasPage digest) frames (here p.slots) made.filled.among (subst (λ (l : List Framed). All (HasPage digest) l) (sym fresh) (All-map (HasPage digest) (fresh_frame owned.name) (range_with_len 0 n) (λ k d within. page)))
+
+    paged : (k : ℕ) (d : Slot) → k < length p.slots → (r : Option Framed) → (get_or p.slots k d).frame ≡ r → IfSome r (HasPage digest)
+    paged k d within None e = tt
+    paged k d within (Some f) e = at_here (HasPage digest) p.slots k d f all_pages within e
 
 -- where no frame is away, the pool gives all that the owner has
-pub all_its : (owned : Owned) (p : Pooled) (frames out : List Framed) → AreOut owned p frames → AreAll (record { name = p.owner; count = length p.slots }) out → AreAll owned out
-all_its owned p frames out o all = subst (λ (w : Owned). AreAll w out) (λ i. record { name = o.owner i; count = o.all i }) all
-
--- the frames as they are made are all that the owner has
-pub fresh_all : (owned : Owned) (frames : List Framed) → frames ≡ fresh_frames owned.name 3 → owned.count ≡ 3 → AreAll owned frames
-fresh_all owned frames fresh count = record {
-  are_its = subst (λ (l : List Framed). All (λ (f : Framed). f.owner ≡ owned.name) l) (sym fresh) (All-map (λ (f : Framed). f.owner ≡ owned.name) (fresh_frame owned.name) (range_with_len 0 3) (λ k d within. refl));
-  numbered = subst (λ (n : ℕ). IsPermutation (range_with_len 0 n) (map (λ (f : Framed). f.number) frames)) (sym count) (subst (λ (l : List Framed). IsPermutation (range_with_len 0 3) (map (λ (f : Framed). f.number) l)) (sym fresh) (IsPermutation-refl (range_with_len 0 3)));
-}
+pub all_its : (owned : Owned) (digest : List ℕ) (p : Pooled) (frames out : List Framed) → AreOut owned digest p frames → AreAll (record { name = p.owner; count = length p.slots }) out → AreAll owned out
+all_its owned digest p frames out o all = subst (λ (w : Owned). AreAll w out) (λ i. record { name = o.owner i; count = o.all i }) all

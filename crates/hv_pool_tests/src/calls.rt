@@ -118,7 +118,7 @@ fn call_both(fixture: &mut Fixture, plain: &mut Plain, call: Call, met: &mut Met
 fn ask_both(fixture: &mut Fixture, plain: &mut Plain, page: u8, session: u32, met: &mut Met) -> bool
     requires { session < 64 }
 {
-    let answer = fixture.ask(page, session);
+    let answer = fixture.ask(u32::from(page), session);
     met.answer(answer.seen);
     plain.ask(page, session, &answer)
 }
@@ -138,13 +138,13 @@ fn give_both(
     let page = page.unwrap_or(own);
     met.way(way, page == own);
     plain.give(number, way, page);
-    fixture.give(way, page)
+    fixture.give(way, u32::from(page))
 }
 
 // Whether the same is seen of each page in both pools.
 fn agree(fixture: &Fixture, plain: &Plain) -> bool {
     for page in 0..PAGES {
-        if fixture.look(page) != plain.look(page) {
+        if fixture.look(u32::from(page)) != plain.look(page) {
             return false;
         }
     }
@@ -171,7 +171,7 @@ fn make_calls(fixture: &mut Fixture, sessions: u32, seed: u64) -> bool
 fn is_as_plain(alloc: Global, sessions: u32, seed: u64) -> Result<bool, AllocError>
     requires { (1 ≤ sessions) × (sessions ≤ 64) }
 {
-    let mut fixture = Fixture::new(alloc)?;
+    let mut fixture = Fixture::new(alloc, 3)?;
     let same = make_calls(&mut fixture, sessions, seed);
     fixture.end();
     Ok(same)

@@ -1,5 +1,5 @@
-// A pool of three frames, with those of them that are away.
-ghost use Rattle.std.specs.Prelude.{◌≡◌, ◌<◌, length};
+// A pool of some frames, with those of them that are away.
+ghost use Rattle.std.specs.Prelude.{◌≡◌, ◌<◌, ◌≤◌};
 ghost use Rattle.hv_pool_tests.specs.Out.{AreOut};
 
 use hv_frames::{FRAME_BYTES, Frame, Owner, make};
@@ -24,15 +24,14 @@ pub struct Answer {
     pub number: u32,
 }
 
-/// A pool of three frames, with those of them that are away.
+/// A pool of some frames, with those of them that are away.
 #[must_use]
 pub struct Fixture {
     owner: Owner,
     pool: Pool,
     // The one that comes back next is the last.
     away: Vec<Frame>,
-    // All pages have the same bytes, so that their digest is taken once.
-    page: Vec<u8>,
+    // All pages have the bytes of a fresh frame, so that their digest is taken once, and no frame is written to.
     digest: Digest,
 }
 
@@ -42,43 +41,33 @@ impl Model for Fixture {
     ghost Value = { Pooled };
 
     ghost use Rattle.std.specs.Prelude.{◌≤◌, vec_capacity};
-    ghost use Rattle.hv_pool_tests.specs.Out.{AreOut, IsPage};
+    ghost use Rattle.hv_pool_tests.specs.Out.{AreOut};
 
     ghost view = { λ f. f.pool };
 
-    ghost invariant = { λ f. AreOut f.owner f.pool f.away.items × (f.owner.count ≤ vec_capacity f.away) × IsPage f.page.items f.digest };
+    ghost invariant = { λ f. AreOut f.owner f.digest f.pool f.away.items × (f.owner.count ≤ vec_capacity f.away) };
 }
 
 // The key of a page by its number.
-fn key_of(page: u8, digest: &Digest) -> PageKey
+fn key_of(page: u32, digest: &Digest) -> PageKey
     ensures { result.digest ≡ digest.now }
 {
     PageKey {
         chunk: 7,
-        page: u32::from(page),
+        page,
         digest: *digest,
     }
 }
 
-// The frame with these bytes.
-fn written(frame: Frame, page: &[u8]) -> Frame
-    requires { length page.now ≡ 4096 }
-    ensures owner { result.owner ≡ frame.owner }
-    ensures number { result.number ≡ frame.number }
-    ensures bytes { result.bytes ≡ page.now }
-{
-    let mut frame = frame;
-    frame.bytes_mut().copy_from_slice(page);
-    frame
-}
-
 impl Fixture {
-    /// Three frames in a pool, none of them away.
-    pub fn new(alloc: Global) -> Result<Fixture, AllocError> {
-        let page = vec![in alloc; 7; FRAME_BYTES]?;
-        let digest = Digest::new(<Sha256 as sha2::Digest>::digest(page.as_slice()));
-        let (owner, frames) = make(alloc, 3)?;
-        let Ok(away) = Vec::with_capacity(alloc, 3) else {
+    /// So many frames in a pool, none of them away.
+    pub fn new(alloc: Global, count: u32) -> Result<Fixture, AllocError>
+        requires { 1 ≤ count }
+    {
+        let page = [0; FRAME_BYTES];
+        let digest = Digest::new(<Sha256 as sha2::Digest>::digest(&page));
+        let (owner, frames) = make(alloc, count)?;
+        let Ok(away) = Vec::with_capacity(alloc, count as usize) else {
             owner.end(frames);
             return Err(AllocError);
         };
@@ -87,7 +76,6 @@ impl Fixture {
                 owner,
                 pool,
                 away,
-                page,
                 digest,
             }),
             Err(Unpooled { frames }) => {
@@ -99,12 +87,12 @@ impl Fixture {
     }
 
     /// What an ask for the page would answer.
-    pub fn look(&self, page: u8) -> Seen {
+    pub fn look(&self, page: u32) -> Seen {
         self.pool.look(&key_of(page, &self.digest))
     }
 
     /// A session asks for the page, and the frame that it is given goes away.
-    pub fn ask(&mut self, page: u8, session: u32) -> Answer
+    pub fn ask(&mut self, page: u32, session: u32) -> Answer
         requires { session < 64 }
     {
         let key = key_of(page, &self.digest);
@@ -151,7 +139,7 @@ impl Fixture {
     }
 
     /// The last frame that is away comes back so, with the page. False where none is away.
-    pub fn give(&mut self, way: Way, page: u8) -> bool {
+    pub fn give(&mut self, way: Way, page: u32) -> bool {
         match way {
             Way::Landed => self.land(page),
             Way::Back => self.give_back(page),
@@ -159,7 +147,7 @@ impl Fixture {
         }
     }
 
-    fn land(&mut self, page: u8) -> bool {
+    fn land(&mut self, page: u32) -> bool {
         if self.away.is_empty() {
             return false;
         }
@@ -167,11 +155,11 @@ impl Fixture {
             unreachable!();
         };
         let key = key_of(page, &self.digest);
-        self.pool.landed(&key, written(frame, self.page.as_slice()));
+        self.pool.landed(&key, frame);
         true
     }
 
-    fn give_back(&mut self, page: u8) -> bool {
+    fn give_back(&mut self, page: u32) -> bool {
         if self.away.is_empty() {
             return false;
         }
@@ -179,11 +167,11 @@ impl Fixture {
             unreachable!();
         };
         let key = key_of(page, &self.digest);
-        self.pool.back(&key, written(frame, self.page.as_slice()));
+        self.pool.back(&key, frame);
         true
     }
 
-    fn lose(&mut self, page: u8) -> bool {
+    fn lose(&mut self, page: u32) -> bool {
         if self.away.is_empty() {
             return false;
         }
@@ -207,7 +195,6 @@ impl Fixture {
             owner,
             pool,
             away,
-            page: _,
             digest,
         } = self;
         end_all(owner, pool, away, &key_of(0, &digest));
@@ -216,7 +203,7 @@ impl Fixture {
 
 // All frames come back, and the pool ends.
 fn end_all(owner: Owner, mut pool: Pool, mut away: Vec<Frame>, key: &PageKey)
-    requires { AreOut owner pool away.items }
+    requires { AreOut owner key.now.digest pool away.items }
 {
     while let Some(frame) = away.pop() {
         pool.lost(key, frame);

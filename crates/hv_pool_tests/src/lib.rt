@@ -1,10 +1,10 @@
-//! Tests of `hv_pool` beside a plain pool. There is nothing else in this crate.
+//! Tests of `hv_pool` beside a plain pool, and the fixture that they and its measurements use.
 #![tactic(auto)]
+
+pub mod fixture;
 
 #[cfg(test)]
 mod calls;
-#[cfg(test)]
-mod fixture;
 #[cfg(test)]
 mod plain;
 #[cfg(test)]

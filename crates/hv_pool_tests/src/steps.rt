@@ -29,26 +29,26 @@ fn is_answered(fixture: &mut Fixture, step: Step) -> bool {
         Reading(session, page, other) => asks(fixture, session, page, Seen::Reading, Some(other)),
         Busy(session, page, other) => asks(fixture, session, page, Seen::Busy, Some(other)),
         Full(session, page) => asks(fixture, session, page, Seen::Full, Some(3)),
-        Landed(page) => fixture.give(Way::Landed, page),
-        Back(page) => fixture.give(Way::Back, page),
-        Lost(page) => fixture.give(Way::Lost, page),
+        Landed(page) => fixture.give(Way::Landed, u32::from(page)),
+        Back(page) => fixture.give(Way::Back, u32::from(page)),
+        Lost(page) => fixture.give(Way::Lost, u32::from(page)),
         Forget(session) => {
             fixture.forget(session % 64);
             true
         }
-        Look(page, seen) => fixture.look(page) == seen,
+        Look(page, seen) => fixture.look(u32::from(page)) == seen,
     }
 }
 
 // Whether this is answered to an ask.
 fn asks(fixture: &mut Fixture, session: u32, page: u8, seen: Seen, number: Option<u32>) -> bool {
-    let answer = fixture.ask(page, session % 64);
+    let answer = fixture.ask(u32::from(page), session % 64);
     answer.seen == seen && number.unwrap_or(answer.number) == answer.number
 }
 
 // The first of the steps that isn't answered so, on three frames.
 fn first_wrong(alloc: Global, steps: &[Step]) -> Result<Option<usize>, AllocError> {
-    let mut fixture = Fixture::new(alloc)?;
+    let mut fixture = Fixture::new(alloc, 3)?;
     let mut wrong = None;
     for n in 0..steps.len() {
         if !is_answered(&mut fixture, steps[n]) {
