@@ -1,10 +1,9 @@
 //! Tests of `hv_pool` beside a plain pool, and the fixture that they and its measurements use.
 #![tactic(auto)]
 
-pub mod fixture;
-
 #[cfg(test)]
 mod calls;
+pub mod fixture;
 #[cfg(test)]
 mod plain;
 #[cfg(test)]
