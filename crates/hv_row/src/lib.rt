@@ -8,6 +8,7 @@ mod digest;
 mod listed;
 mod row;
 mod schema;
+mod shared;
 mod spelling;
 mod value;
 
@@ -17,5 +18,6 @@ pub use digest::{DIGEST_BYTES, Digest};
 pub use listed::Listed;
 pub use row::{MAX_ROW_BYTES, MAX_TEXT_BYTES, fits_type, is_text, row_fits, row_length};
 pub use schema::{Column, Columns, MAX_COLUMNS, Schema, first_repeated, has_column, is_schema};
+pub use shared::Shared;
 pub use spelling::{DecodeFault, RowFault, check, decode, encode, encode_onto};
 pub use value::{ColType, Row, Rows, Value, compare};
