@@ -18,6 +18,7 @@ use Rattle.hv_row.specs.declared.schema.Column.{Column}
 use Rattle.hv_row.specs.Value.{FitsType, IsTextValue, value_bytes}
 use Rattle.hv_row.specs.Row.{RowFits, row_bytes}
 use Rattle.hv_row.specs.Spelling.{IsSpelling, value_length, behind, fault_from, row_fault}
+use Rattle.hv_row.specs.Packed.{value_spelled}
 
 abbrev pub IsBytes : List ℕ → Type 0
 IsBytes bytes = (i : ℕ) → get_or bytes i 0 < 256
@@ -145,14 +146,8 @@ value_alone k bytes n fits e =
     let front = value_found k bytes n fits e in
     ap (value_length k) (front.spelt ∙ sym (append-nil (value_bytes k front.value))) ∙ value_front k front.value [] front.fits ∙ ap (λ (x : List ℕ). Some (length x)) (sym front.spelt)
 
--- the value that a column's bytes begin with
-read_value : ColType → List ℕ → Value
-read_value kind.Int bytes = number (take 8 bytes)
-read_value kind.Text [] = Text []
-read_value kind.Text (n ∷ rest) = Text (take n rest)
-
-value_again : (k : ColType) (v : Value) (rest : List ℕ) → FitsType k v → read_value k (value_bytes k v ++ rest) ≡ v
-unfolding read_value
+-- the value with which a column's bytes begin
+pub value_again : (k : ColType) (v : Value) (rest : List ℕ) → FitsType k v → value_spelled k (value_bytes k v ++ rest) ≡ v
 value_again kind.Int (Int x) rest fits =
     let n = cast_unsigned w64 x in
     let back : from_be_bytes w64 (to_be_bytes w64 n) ≡ n = from_be_bytes-to_be_bytes_8 n (Fits-of_z fits).fits in
@@ -164,7 +159,7 @@ value_again kind.Text (Text bytes) rest fits = ap Text (take_at bytes rest (leng
 -- bytes begin with one value at most
 value_same : (k : ColType) (v w : Value) (r s : List ℕ) → FitsType k v → FitsType k w → value_bytes k v ++ r ≡ value_bytes k w ++ s → (v ≡ w) × (r ≡ s)
 value_same k v w r s fits fits' e =
-    let same : v ≡ w = sym (value_again k v r fits) ∙ ap (read_value k) e ∙ value_again k w s fits' in
+    let same : v ≡ w = sym (value_again k v r fits) ∙ ap (value_spelled k) e ∙ value_again k w s fits' in
     let n = length (value_bytes k v) in
     (same, sym (drop_at (value_bytes k v) r n refl) ∙ ap (drop n) e ∙ drop_at (value_bytes k w) s n (ap (λ (x : Value). length (value_bytes k x)) (sym same)))
 

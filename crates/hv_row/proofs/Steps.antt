@@ -79,7 +79,7 @@ read_all cs bytes i at row all end read =
 -- ---- writing: the values from the i-th on
 
 -- a value that fits a column fits one of its own type
-fits_own : (k : ColType) (v : Value) → FitsType k v → (k ≡ type_of v) × FitsType (type_of v) v
+pub fits_own : (k : ColType) (v : Value) → FitsType k v → (k ≡ type_of v) × FitsType (type_of v) v
 fits_own kind.Int (Int x) fits = (refl, fits)
 fits_own kind.Int (Text _) fits = absurd fits
 fits_own kind.Text (Int _) fits = absurd fits

@@ -2,3 +2,4 @@ pub mod Value
 pub mod Schema
 pub mod Row
 pub mod Spelling
+pub mod Packed
