@@ -129,23 +129,6 @@ text_none (m ∷ rest) some short never =
     let utf8 : is_utf8 (take m rest) ≡ false = false_from_ne_true _ (λ is. never (record { short = omega (arith, length-take m rest); utf8 = IsUtf8-from_is_utf8 (take m rest) is })) in
     rw utf8 (collapsed (ltb (length rest) m))
 
-pub text_found : (bytes : List ℕ) → IsBytes bytes → value_length kind.Text bytes ≡ Some (length bytes) → IsTextValue (drop 1 bytes) × (bytes ≡ length (drop 1 bytes) ∷ drop 1 bytes)
-unfolding value_length
-text_found [] fits e = absurd cc
-text_found (m ∷ rest) fits e =
-    let g = guarded (ltb (length rest) m) (cond (is_utf8 (take m rest)) (Some (suc m)) None) (suc (length rest)) e in
-    let u = cond_some (is_utf8 (take m rest)) (suc m) (suc (length rest)) g.1 in
-    let all : m ≡ length rest = omega (arith, u.1) in
-    let whole : take m rest ≡ rest = take_all m rest (omega arith) in
-    let utf8 : IsUtf8 rest = subst (λ (x : List ℕ). IsUtf8 x) whole (IsUtf8-from_is_utf8 (take m rest) u.0) in
-    (record { short = omega (arith, fits 0); utf8 = utf8 }, ap (λ (x : ℕ). x ∷ rest) all)
-
--- the bytes of a value alone
-pub value_alone : (k : ColType) (bytes : List ℕ) (n : ℕ) → IsBytes bytes → value_length k bytes ≡ Some n → value_length k (take n bytes) ≡ Some (length (take n bytes))
-value_alone k bytes n fits e =
-    let front = value_found k bytes n fits e in
-    ap (value_length k) (front.spelt ∙ sym (append-nil (value_bytes k front.value))) ∙ value_front k front.value [] front.fits ∙ ap (λ (x : List ℕ). Some (length x)) (sym front.spelt)
-
 -- the value with which a column's bytes begin
 pub value_again : (k : ColType) (v : Value) (rest : List ℕ) → FitsType k v → value_spelled k (value_bytes k v ++ rest) ≡ v
 value_again kind.Int (Int x) rest fits =

@@ -1,7 +1,6 @@
 -- One value on, in the loops that read and write rows: i columns and `at` bytes are behind it.
-use Rattle.std.proofs.Common.{◌≡◌, ℕ, ◌+◌, ◌-◌, ◌<◌, ◌≤◌, List, [], ◌∷◌, ◌++◌, length, get_or, take, drop, Option, Some, None, refl, sym, ap, subst, ◌∙◌, append_assoc, arith}
-use Rattle.std.proofs.lemmas.List.{length-take, append-nil, drop-drop, drop_more, take_more, drop_all, take_all, take-append-le}
-use Rattle.std.proofs.Math.Seq.{take-add}
+use Rattle.std.proofs.Common.{◌≡◌, ℕ, ◌+◌, ◌-◌, ◌<◌, ◌≤◌, List, [], ◌∷◌, ◌++◌, length, get_or, take, drop, Option, Some, None, refl, sym, ap, subst, ◌∙◌, arith}
+use Rattle.std.proofs.lemmas.List.{length-take, drop-drop, drop_more, drop_all, take-append-le}
 use Rattle.hv_row.specs.declared.value.Value.{Value}
 use Rattle.hv_row.specs.declared.value.Value.TheVariants.{Int, Text}
 use Rattle.hv_row.specs.declared.value.ColType.{ColType}
@@ -10,7 +9,7 @@ use Rattle.hv_row.specs.declared.schema.Column.{Column}
 use Rattle.hv_row.specs.Value.{FitsType, type_of, value_bytes}
 use Rattle.hv_row.specs.Row.{RowFits, row_bytes}
 use Rattle.hv_row.specs.Spelling.{value_length, behind, fault_from}
-use Rattle.hv_row.proofs.Reading.{join, rest_of}
+use Rattle.hv_row.proofs.Reading.{rest_of}
 
 -- ---- reading
 
@@ -43,38 +42,6 @@ fault_left cs i at bytes all lt = rw (drop_all i cs all, drop_more bytes at 0 lt
 pub fault_none : (cs : List Column) (i at : ℕ) (bytes : List ℕ) → length cs ≤ i → length bytes ≤ at → fault_from at (drop i cs) (drop at bytes) ≡ None
 unfolding fault_from
 fault_none cs i at bytes all end = rw (drop_all i cs all, drop_all at bytes end) refl
-
-pub fits_more : (cs : List Column) (vs : List Value) (c : Column) (v : Value) → RowFits cs vs → FitsType c.kind v → RowFits (cs ++ c ∷ []) (vs ++ v ∷ [])
-fits_more [] [] c v fits fit = (fit, tt)
-fits_more [] (_ ∷ _) c v fits fit = absurd fits
-fits_more (_ ∷ _) [] c v fits fit = absurd fits
-fits_more (_ ∷ cs) (_ ∷ vs) c v fits fit = (fits.0, fits_more cs vs c v fits.1 fit)
-
-pub bytes_more : (cs : List Column) (vs : List Value) (c : Column) (v : Value) → RowFits cs vs → row_bytes (cs ++ c ∷ []) (vs ++ v ∷ []) ≡ row_bytes cs vs ++ value_bytes c.kind v
-bytes_more [] [] c v fits = append-nil (value_bytes c.kind v)
-bytes_more [] (_ ∷ _) c v fits = absurd fits
-bytes_more (_ ∷ _) [] c v fits = absurd fits
-bytes_more (d ∷ cs) (w ∷ vs) c v fits =
-    ap (λ (x : List ℕ). value_bytes d.kind w ++ x) (bytes_more cs vs c v fits.1) ∙ sym (append_assoc (value_bytes d.kind w) (row_bytes cs vs) (value_bytes c.kind v))
-
--- what is read of a row: the values of the first i columns, spelled by the bytes before `at`
-pub record IsRead (cs : List Column) (bytes : List ℕ) (i at : ℕ) (row : List Value) : Type 0 where
-  pub fits : RowFits (take i cs) row
-  pub spelt : take at bytes ≡ row_bytes (take i cs) row
-
-pub read_on : (cs : List Column) (bytes : List ℕ) (i at : ℕ) (row : List Value) (c : Column) (n : ℕ) (v : Value) → i < length cs → c ≡ get_or cs i c → IsRead cs bytes i at row → FitsType c.kind v → take n (take (length bytes - at) (drop at bytes)) ≡ value_bytes c.kind v → IsRead cs bytes (i + 1) (at + n) (row ++ v ∷ [])
-read_on cs bytes i at row c n v lt is read fit given =
-    let spelt : take n (drop at bytes) ≡ value_bytes c.kind v = rw (rest_of at bytes) at given in
-    let next : take (i + 1) cs ≡ take i cs ++ c ∷ [] = take_more cs i c lt ∙ ap (λ (x : Column). take i cs ++ x ∷ []) (sym is) in
-    record {
-      fits = rw next (fits_more (take i cs) row c v read.fits fit);
-      spelt = take-add at n bytes ∙ join read.spelt spelt ∙ sym (bytes_more (take i cs) row c v read.fits) ∙ ap (λ (x : List Column). row_bytes x (row ++ v ∷ [])) (sym next);
-    }
-
-pub read_all : (cs : List Column) (bytes : List ℕ) (i at : ℕ) (row : List Value) → length cs ≤ i → length bytes ≤ at → IsRead cs bytes i at row → RowFits cs row × (bytes ≡ row_bytes cs row)
-read_all cs bytes i at row all end read =
-    let whole : take i cs ≡ cs = take_all i cs all in
-    (subst (λ (x : List Column). RowFits x row) whole read.fits, sym (take_all at bytes end) ∙ read.spelt ∙ ap (λ (x : List Column). row_bytes x row) whole)
 
 -- ---- writing: the values from the i-th on
 

@@ -8,7 +8,7 @@ ghost use Rattle.hv_row.specs.Row.{RowFits, row_bytes};
 ghost use Rattle.hv_row.specs.Spelling.{IsSpelling, value_length, row_fault, IsUnspelt, IsUndecoded};
 
 use crate::row::INT_BYTES;
-use crate::{Bytes, ColType, MAX_ROW_BYTES, Row, Schema, Value, is_text, row_length};
+use crate::{ColType, MAX_ROW_BYTES, Row, Schema, Value, decode_spelled, is_text, row_length};
 use std::alloc::{AllocError, Global};
 
 /// Why a row has no bytes in a page.
@@ -160,33 +160,8 @@ pub fn decode(alloc: Global, bytes: &[u8], schema: &Schema) -> Result<Row, Decod
     // Which fault it is.
     ensures fault { MatchResult result (λ _. row_fault schema.now bytes.now ≡ None) (λ fault. IsUndecoded fault (row_fault schema.now bytes.now)) }
 {
-    let columns = schema.columns();
-    let mut row = Row::with_capacity(alloc, columns.len())?;
-    let mut at = 0;
-    for column in columns {
-        let rest = &bytes[at..];
-        let Some(length) = value_length(rest, column.kind) else {
-            return Err(DecodeFault::Form { byte: at as u16 });
-        };
-        row.push(value_of(alloc, &rest[..length], column.kind)?)?;
-        at += length;
+    if let Err(byte) = check(bytes, schema) {
+        return Err(DecodeFault::Form { byte });
     }
-    if at < bytes.len() {
-        return Err(DecodeFault::Form { byte: at as u16 });
-    }
-    Ok(row)
-}
-
-// The value whose bytes these are.
-#[tactic(auto, unfolding(crate::specs::Spelling::value_length))]
-fn value_of(alloc: Global, bytes: &[u8], kind: ColType) -> Result<Value, AllocError>
-    requires { value_length kind bytes.now ≡ Some (length bytes.now) }
-    ensures { IfOk result (λ value. FitsType kind value × (bytes.now ≡ value_bytes kind value)) }
-{
-    match kind {
-        ColType::Int => Ok(Value::Int(i64::from_be_bytes([
-            bytes[0], bytes[1], bytes[2], bytes[3], bytes[4], bytes[5], bytes[6], bytes[7],
-        ]))),
-        ColType::Text => Ok(Value::Text(Bytes::from_slice(alloc, &bytes[1..])?)),
-    }
+    Ok(decode_spelled(alloc, bytes, schema)?)
 }
