@@ -5,10 +5,11 @@ ghost use Rattle.hv_row.specs.Row.{RowFits, row_bytes};
 ghost use Rattle.hv_page.specs.Heap.{IsHeapEntry};
 
 use hv_page::HeapView;
-use hv_row::{DecodeFault, Row, Schema, decode};
+use hv_row::{Row, Schema, decode_spelled};
 use std::alloc::{AllocError, Global};
 
-/// The row at a slot below the count of a page that was parsed under this schema. `Err` only for want of memory.
+/// The row at a slot below the count of a page that was parsed under this schema; its texts are not tested again.
+/// `Err` only for want of memory.
 pub fn row_at(
     alloc: Global,
     view: &HeapView<'_>,
@@ -19,9 +20,5 @@ pub fn row_at(
     requires below { slot < length view.now }
     ensures { IfOk result (λ row. RowFits schema.now row × (row_bytes schema.now row ≡ get_or view.now slot [])) }
 {
-    match decode(alloc, view.row(slot), schema) {
-        Ok(row) => Ok(row),
-        Err(DecodeFault::Memory) => Err(AllocError),
-        Err(DecodeFault::Form { .. }) => unreachable!(),
-    }
+    decode_spelled(alloc, view.row(slot), schema)
 }

@@ -1,7 +1,9 @@
 // Heap pages, made row by row.
 ghost use Rattle.std.specs.Prelude.{◌≡◌, ℕ, List, [], ◌∷◌, ◌++◌, ◌-◌, ◌<◌, ◌≤◌, true, false, length, IfOk, IfErr, OnOk, OnErr};
 ghost use Rattle.hv_row.specs.Row.{RowFits, row_bytes};
-ghost use Rattle.hv_row.specs.Spelling.{IsUnspelt};
+ghost use Rattle.hv_row.specs.declared.value.Value.{Value};
+ghost use Rattle.hv_row.specs.Spelling.{IsSpelling, IsUnspelt};
+ghost use Rattle.hv_row.specs.Packed.{row_spelled};
 ghost use Rattle.hv_page.specs.Layout.{IsBegun, WasBegun, used_by};
 ghost use Rattle.hv_page.specs.Heap.{heap_kind};
 ghost use Rattle.hv_heap.specs.Writer.{IsPlaced, page_at, page_now};
@@ -31,30 +33,17 @@ pub struct Placed {
 /// Rows packed into heap pages, page after page; contracts see the page that is being made.
 #[derive(Drop)]
 pub struct HeapWriter {
-    schema: Schema,
-    added: u32,
-    number: u32,
-    count: u16,
-    page: Room,
-    page_from: usize,
-    done: Room,
-    done_from: usize,
+    pages: HeapPages,
     // The bytes of one row; its room serves each.
     entry: Vec<u8>,
 }
 
 impl Model for HeapWriter {
-    ghost use Rattle.std.specs.Prelude.{◌≡◌, ◌+◌, ◌*◌, ◌≤◌, length};
-    ghost use Rattle.hv_page.specs.Fault.{entries_of};
-    ghost use Rattle.hv_page.specs.Layout.{IsBegun};
-    ghost use Rattle.hv_page.specs.Heap.{heap_kind};
-    ghost use Rattle.hv_heap.specs.Writer.{Packing, page_at};
+    ghost use Rattle.hv_heap.specs.Writer.{Packing};
 
     ghost Value = { Packing };
 
-    ghost view = { λ w. record { schema = w.schema; added = w.added; number = w.number; entries = entries_of (page_at w.page_from w.page.value); done = page_at w.done_from w.done.value } };
-
-    ghost invariant = { λ w. IsBegun heap_kind w.number (page_at w.page_from w.page.value) (entries_of (page_at w.page_from w.page.value)) × (w.count ≡ length (entries_of (page_at w.page_from w.page.value))) × (w.page_from + 2 * w.count ≡ 4082) × (length w.page.value ≡ 8178) × (w.done_from ≤ 4082) × (length w.done.value ≡ 8178) × (w.number ≤ w.added) };
+    ghost view = { λ w. w.pages };
 }
 
 impl HeapWriter {
@@ -62,17 +51,8 @@ impl HeapWriter {
     pub fn new(alloc: Global, schema: &Schema) -> Result<HeapWriter, AllocError>
         ensures { IfOk result (λ w. (w.schema ≡ schema.now) × (w.added ≡ 0) × (w.number ≡ 0) × (w.entries ≡ [])) }
     {
-        let mut page = Box::new(alloc, [0; ROOM_BYTES])?;
-        begin_top(page.as_mut_slice(), 0);
         Ok(HeapWriter {
-            schema: schema.copy(alloc)?,
-            added: 0,
-            number: 0,
-            count: 0,
-            page,
-            page_from: TOP,
-            done: Box::new(alloc, [0; ROOM_BYTES])?,
-            done_from: TOP,
+            pages: HeapPages::new(alloc, schema)?,
             entry: Vec::with_capacity(alloc, MAX_ROW_BYTES as usize)?,
         })
     }
@@ -88,8 +68,92 @@ impl HeapWriter {
         ensures kept { OnErr result (self.new ≡ self.old) }
     {
         self.entry.clear();
-        encode_onto(&mut self.entry, row, &self.schema)?;
-        let entry = self.entry.as_slice();
+        encode_onto(&mut self.entry, row, self.pages.schema())?;
+        Ok(self.pages.place(self.entry.as_slice()))
+    }
+
+    /// Adds the row that these bytes spell, at most 2,000 of them, by the bytes as they are: like `add`, and never fails.
+    pub fn add_spelled(&mut self, entry: &[u8]) -> Placed
+        requires spelling { IsSpelling self.old.schema entry.now }
+        requires short { length entry.now ≤ 2000 }
+        requires few { self.old.added < 1000000 }
+        ensures { IsPlaced self.old self.new (row_spelled self.old.schema entry.now) result }
+    {
+        self.pages.place(entry)
+    }
+
+    /// The page on which the last row stands, as it is now.
+    pub fn page(&self) -> &[u8]
+        ensures { result.now ≡ page_now self.now }
+    {
+        self.pages.page()
+    }
+
+    /// The finished page before it, until the next row.
+    pub fn done(&self) -> &[u8]
+        ensures { result.now ≡ self.now.done }
+    {
+        self.pages.done()
+    }
+}
+
+// The page that is being made, and the finished one before it.
+#[derive(Drop)]
+struct HeapPages {
+    schema: Schema,
+    added: u32,
+    number: u32,
+    count: u16,
+    page: Room,
+    page_from: usize,
+    done: Room,
+    done_from: usize,
+}
+
+impl Model for HeapPages {
+    ghost use Rattle.std.specs.Prelude.{◌≡◌, ◌+◌, ◌*◌, ◌≤◌, length};
+    ghost use Rattle.hv_page.specs.Fault.{entries_of};
+    ghost use Rattle.hv_page.specs.Layout.{IsBegun};
+    ghost use Rattle.hv_page.specs.Heap.{heap_kind};
+    ghost use Rattle.hv_heap.specs.Writer.{Packing, page_at};
+
+    ghost Value = { Packing };
+
+    ghost view = { λ w. record { schema = w.schema; added = w.added; number = w.number; entries = entries_of (page_at w.page_from w.page.value); done = page_at w.done_from w.done.value } };
+
+    ghost invariant = { λ w. IsBegun heap_kind w.number (page_at w.page_from w.page.value) (entries_of (page_at w.page_from w.page.value)) × (w.count ≡ length (entries_of (page_at w.page_from w.page.value))) × (w.page_from + 2 * w.count ≡ 4082) × (length w.page.value ≡ 8178) × (w.done_from ≤ 4082) × (length w.done.value ≡ 8178) × (w.number ≤ w.added) };
+}
+
+impl HeapPages {
+    fn new(alloc: Global, schema: &Schema) -> Result<HeapPages, AllocError>
+        ensures { IfOk result (λ w. (w.schema ≡ schema.now) × (w.added ≡ 0) × (w.number ≡ 0) × (w.entries ≡ [])) }
+    {
+        let mut page = Box::new(alloc, [0; ROOM_BYTES])?;
+        begin_top(page.as_mut_slice(), 0);
+        Ok(HeapPages {
+            schema: schema.copy(alloc)?,
+            added: 0,
+            number: 0,
+            count: 0,
+            page,
+            page_from: TOP,
+            done: Box::new(alloc, [0; ROOM_BYTES])?,
+            done_from: TOP,
+        })
+    }
+
+    fn schema(&self) -> &Schema
+        ensures { result.now ≡ self.now.schema }
+    {
+        &self.schema
+    }
+
+    // Places the bytes of a row, at most 2,000: on the page where they fit, else on the next one.
+    fn place(&mut self, entry: &[u8]) -> Placed
+        requires short { length entry.now ≤ 2000 }
+        requires few { self.old.added < 1000000 }
+        ensures { (row : List Value) → entry.now ≡ row_bytes self.old.schema row → IsPlaced self.old self.new row result }
+    {
         let full = !put(self.page.as_mut_slice(), self.page_from, entry);
         if full {
             self.number += 1;
@@ -106,18 +170,16 @@ impl HeapWriter {
         };
         self.count += 1;
         self.added += 1;
-        Ok(Placed { id, full })
+        Placed { id, full }
     }
 
-    /// The page on which the last row stands, as it is now.
-    pub fn page(&self) -> &[u8]
+    fn page(&self) -> &[u8]
         ensures { result.now ≡ page_now self.now }
     {
         part(&self.page, self.page_from)
     }
 
-    /// The finished page before it, until the next row.
-    pub fn done(&self) -> &[u8]
+    fn done(&self) -> &[u8]
         ensures { result.now ≡ self.now.done }
     {
         part(&self.done, self.done_from)

@@ -1,6 +1,6 @@
 use Rattle.std.proofs.Common.{◌≡◌, refl, sym, ap, length, rules, arith}
 use Rattle.hv_heap.proofs.Begun.{begun_entries, begun_as_read}
-use Rattle.hv_heap.proofs.writer.HeapWriter.new.Goals as goal
+use Rattle.hv_heap.proofs.writer.HeapPages.new.Goals as goal
 
 pub invariant_of-result : goal.invariant_of-result
 invariant_of-result c =

@@ -1,16 +1,16 @@
-use Rattle.std.proofs.Common.{◌≡◌, ◌+◌, ◌*◌, ◌-◌, ◌≤◌, ◌∷◌, [], sym, ap, ◌∙◌, length, rules, arith, length-append}
+use Rattle.std.proofs.Common.{◌≡◌, ◌+◌, ◌*◌, ◌-◌, ◌≤◌, ◌∷◌, [], sym, ap, ◌∙◌, length, arith, length-append}
 use Rattle.hv_page.specs.Heap.{heap_kind}
 use Rattle.hv_page.specs.Fault.{entries_of}
 use Rattle.hv_row.specs.Row.{row_bytes}
-use Rattle.hv_heap.specs.Writer.{page_at}
+use Rattle.hv_heap.specs.Writer.{Packing, page_at}
 use Rattle.hv_heap.proofs.Begun.{begun_entries, begun_as_read, begun_moved}
 use Rattle.hv_heap.proofs.Placing.{placed_here, placed_next}
-use Rattle.hv_heap.specs.contracts.writer.HeapWriter.{the_view}
-use Rattle.hv_heap.proofs.writer.HeapWriter.add.Goals as goal
-use Rattle.hv_heap.proofs.writer.HeapWriter.add.Goals.{then-full, else-full}
+use Rattle.hv_heap.specs.contracts.writer.HeapPages.{the_view}
+use Rattle.hv_heap.proofs.writer.HeapPages.place.Goals as goal
+use Rattle.hv_heap.proofs.writer.HeapPages.place.Goals.{then-full, else-full}
 
-pub invariant_of-self-2 : goal.invariant_of-self-2
-invariant_of-self-2 c =
+pub invariant_of-self : goal.invariant_of-self
+invariant_of-self c =
     let inside = c.self.inside in
     let entries = entries_of (page_at inside.page_from inside.page.value) in
     let lent = c.as_mut_slice.ensures.value ∙ c.deref_mut.ensures.value in
@@ -24,26 +24,25 @@ invariant_of-self-2 c =
       | else-full w ↦
           let begun = c.put-full.ensures.pushed heap_kind inside.number entries (begun_moved page c.self.invariant.0) w.if-full.false in
           let count : inside.count + 1 ≡ length (entries_of (page_at (inside.page_from - 2) c.put-full.new.room)) =
-          omega (arith, c.self.invariant.1, ap length (begun_entries begun), length-append entries (c.as_slice-entry.result.now ∷ [])) in
+          omega (arith, c.self.invariant.1, ap length (begun_entries begun), length-append entries (c.args.entry.now ∷ [])) in
           let start : (inside.page_from - 2) + 2 * (inside.count + 1) ≡ 4082 = omega (arith, c.self.invariant.2, few) in
           rw w.self-inside-is (begun_as_read begun, count, start, long, c.self.invariant.4, c.self.invariant.5, omega arith)
     ]
 
-pub returns-clause-placed : goal.returns-clause-placed
-returns-clause-placed c =
+pub returns : goal.returns
+returns c row spelt =
     let inside = c.self.inside in
     let entries = entries_of (page_at inside.page_from inside.page.value) in
     let lent = c.as_mut_slice.ensures.value ∙ c.deref_mut.ensures.value in
     let page = ap (page_at inside.page_from) lent in
-    let row = c.args.row.now in
-    let entry = c.as_slice-entry.result.now in
-    let spelt : entry ≡ row_bytes inside.schema row = search rules in
+    let entry = c.args.entry.now in
+    let own : entry ≡ row_bytes inside.schema row = spelt ∙ ap (λ (p : Packing). row_bytes p.schema row) (sym c.self.view_is) in
     elim c.if-full.branch [
       | then-full w ↦
           let over = c.put-full.ensures.full heap_kind inside.number entries (begun_moved page c.self.invariant.0) w.if-full.true in
           let finished = ap (page_at inside.page_from) (w.turn.ensures.finished ∙ c.put-full.ensures.same w.if-full.true ∙ lent) ∙ c.self.invariant.0.whole in
-          rw (← c.self.view_is, w.self-inside-is) (placed_next (the_view inside) row (page_at 4080 w.turn.new.page.value) (page_at inside.page_from w.turn.new.done.value) entry c.put-full.result spelt w.if-full.true over w.turn.ensures.begun finished)
+          rw (← c.self.view_is, w.self-inside-is) (placed_next (the_view inside) row (page_at 4080 w.turn.new.page.value) (page_at inside.page_from w.turn.new.done.value) entry c.put-full.result own w.if-full.true over w.turn.ensures.begun finished)
       | else-full w ↦
           let begun = c.put-full.ensures.pushed heap_kind inside.number entries (begun_moved page c.self.invariant.0) w.if-full.false in
-          rw (← c.self.view_is, w.self-inside-is) (placed_here (the_view inside) row (page_at (inside.page_from - 2) c.put-full.new.room) entry inside.count c.put-full.result spelt c.self.invariant.1 w.if-full.false begun)
+          rw (← c.self.view_is, w.self-inside-is) (placed_here (the_view inside) row (page_at (inside.page_from - 2) c.put-full.new.room) entry inside.count c.put-full.result own c.self.invariant.1 w.if-full.false begun)
     ]
