@@ -3,31 +3,35 @@ ghost use Rattle.std.specs.Prelude.{◌≡◌, ◌+◌, ◌<◌, ◌≤◌, [], 
 ghost use Rattle.hv_row.specs.Row.{RowFits};
 ghost use Rattle.hv_chunk.specs.declared.fault.BuildFault.TheVariants.{TooLong};
 
+use crate::files::{device_in, remove_file};
+use crate::memory::failing;
 use crate::packed::{ROWS, page_of};
 use crate::reads::read_run;
 use hv_chunk::{BuildFault, Chunk, ChunkBuilder};
-use hv_dev::{CleanDevice, Device, Fail, FailKind, FileDevice, MemDevice, Order, PageSink, Port};
+use hv_dev::{CleanDevice, Device, FailKind, Order, PageSink, Port};
 use hv_page::digest;
 use hv_row::{Bytes, ColType, Column, Columns, Copied, Row, Schema, Value, row_fits};
 use hv_view::ChunkView;
-use std::alloc::{AllocError, Global};
+use std::alloc::Global;
+use std::fs;
 use std::process::Abort;
-use std::{fs, test};
 
 // A schema of so many columns of a type, named by their places.
-fn schema_of(alloc: Global, kind: ColType, count: u8) -> Result<Schema, test::Fail> {
+fn schema_of(rt: &impl Abort, alloc: Global, kind: ColType, count: u8) -> Schema {
     let mut columns = Columns::new(alloc);
     for at in 0..count {
-        columns.push(Column::plain(alloc, &[at], kind)?)?;
+        let column = Column::plain(alloc, &[at], kind).expect(rt, "a column");
+        columns.push(column).expect(rt, "room for a column");
     }
-    Ok(Schema::checked(columns).ok_or("no schema")?)
+    Schema::checked(columns).expect(rt, "a schema")
 }
 
 // A builder without a row.
-fn builder_of(alloc: Global, schema: &Schema) -> Result<ChunkBuilder, AllocError>
-    ensures { IfOk result (λ b. b ≡ record { schema = schema.now; rows = []; pages = [] }) }
+fn builder_of(rt: &impl Abort, alloc: Global, schema: &Schema) -> ChunkBuilder
+    ensures { result ≡ record { schema = schema.now; rows = []; pages = [] } }
 {
-    ChunkBuilder::new(alloc, schema.copy(alloc)?)
+    let schema = schema.copy(alloc).expect(rt, "a schema's copy");
+    ChunkBuilder::new(alloc, schema).expect(rt, "a builder")
 }
 
 // A row of one number, which fits a schema of one.
@@ -82,7 +86,7 @@ fn build<P: PageSink>(
     ensures kept { P.reading port.new ≡ P.reading port.old }
     ensures pages { IfOk result (λ chunk. P.File.tells ≡ true → length (P.File.pages chunk.file) ≡ chunk.heap_pages) }
 {
-    let mut builder = builder_of(alloc, schema).expect(rt, "a builder");
+    let mut builder = builder_of(rt, alloc, schema);
     match push_rows(rt, alloc, port, &mut builder, schema, count) {
         Ok(()) => builder.finish(alloc, port),
         Err(fault) => Err(fault),
@@ -141,37 +145,35 @@ fn is_built<D: Device>(
     device: &mut D,
     count: u32,
     pages: u32,
-) -> Result<bool, test::Fail>
+) -> bool
     requires { count ≤ 1000000 }
 {
-    let schema = schema_of(alloc, ColType::Int, 1)?;
-    let mut port = device.port(alloc, Order::Fifo, 1)?;
-    let chunk = build(rt, alloc, &mut port, &schema, count)?;
-    Ok(chunk.heap_pages() == pages && is_read_back(rt, alloc, &mut port, &chunk, count))
+    let schema = schema_of(rt, alloc, ColType::Int, 1);
+    let mut port = device.port(alloc, Order::Fifo, 1).expect(rt, "a port");
+    let chunk = build(rt, alloc, &mut port, &schema, count).expect(rt, "a chunk");
+    chunk.heap_pages() == pages && is_read_back(rt, alloc, &mut port, &chunk, count)
 }
 
 // How many rows are pushed, and how many pages they take.
 const PAGES: [(u32, u32); 5] = [(0, 0), (1, 1), (408, 1), (409, 2), (100_000, 246)];
 
 #[test]
-fn packs_408_rows_to_a_page(rt: HostRuntime) -> Result<(), test::Fail> {
+fn packs_408_rows_to_a_page(rt: HostRuntime) {
     for (count, pages) in PAGES {
         assert!(rt;
-            is_built(&rt, rt.alloc(), &mut CleanDevice::new(), count, pages)?,
+            is_built(&rt, rt.alloc(), &mut CleanDevice::new(), count, pages),
             "{count}"
         );
     }
-    Ok(())
 }
 
 // The folder has one file alone.
 #[test]
-fn reads_a_chunk_of_files_back(rt: HostRuntime) -> Result<(), test::Fail> {
-    let folder = b"hv_chunk_files_test".to_vec(rt.alloc())?;
-    let mut device = FileDevice::new(rt.alloc(), rt, folder)?;
-    assert!(rt; is_built(&rt, rt.alloc(), &mut device, 1_000, 3)?);
-    fs::remove_file(&rt, "hv_chunk_files_test/0-0.pages")?;
-    Ok(fs::remove_dir(&rt, "hv_chunk_files_test")?)
+fn reads_a_chunk_of_files_back(rt: HostRuntime) {
+    let mut device = device_in(&rt, rt, b"hv_chunk_files_test");
+    assert!(rt; is_built(&rt, rt.alloc(), &mut device, 1_000, 3));
+    remove_file(&rt, rt, "hv_chunk_files_test/0-0.pages");
+    fs::remove_dir(&rt, "hv_chunk_files_test").expect(&rt, "an empty folder's end");
 }
 
 // Whether 409 rows fail once for a write, and then are built on the same port.
@@ -194,66 +196,68 @@ const FAILS: [(FailKind, u32); 3] = [
     (FailKind::Seal, 1),
 ];
 
+// Whether it does so over a device that fails at one call.
+fn goes_on_over(rt: &impl Abort, alloc: Global, kind: FailKind, nth: u32) -> bool {
+    let schema = schema_of(rt, alloc, ColType::Int, 1);
+    let mut device = failing(rt, alloc, kind, nth);
+    let mut port = device.port(alloc, Order::Fifo, 1).expect(rt, "a port");
+    goes_on(rt, alloc, &mut port, &schema)
+}
+
 #[test]
-fn goes_on_after_a_fault(rt: HostRuntime) -> Result<(), test::Fail> {
-    let alloc = rt.alloc();
-    let schema = schema_of(alloc, ColType::Int, 1)?;
+fn goes_on_after_a_fault(rt: HostRuntime) {
     for (kind, nth) in FAILS {
-        let mut fails = Vec::new(alloc);
-        fails.push(Fail { port: 0, kind, nth })?;
-        let mut port = MemDevice::new(fails).port(alloc, Order::Fifo, 1)?;
-        assert!(rt; goes_on(&rt, alloc, &mut port, &schema));
+        assert!(rt; goes_on_over(&rt, rt.alloc(), kind, nth));
     }
-    Ok(())
 }
 
 // Eight texts of so many bytes, each of which takes a byte more: 2,000 bytes for 249, and 2,008 for 250.
-fn texts_of(alloc: Global, bytes: usize) -> Result<Row, AllocError>
+fn texts_of(rt: &impl Abort, alloc: Global, bytes: usize) -> Row
     requires { bytes ≤ 255 }
 {
     let mut row = Row::new(alloc);
     for _ in 0..8u8 {
-        row.push(Value::Text(Bytes::from_slice(alloc, &[b'a'; 255][..bytes])?))?;
+        let text = Bytes::from_slice(alloc, &[b'a'; 255][..bytes]).expect(rt, "a text");
+        row.push(Value::Text(text)).expect(rt, "room for a value");
     }
-    Ok(row)
+    row
 }
 
 // Pushes a row of eight texts, and says whether it isn't too long.
 fn push_texts<P: PageSink>(
+    rt: &impl Abort,
     alloc: Global,
     port: &mut P,
     builder: &mut ChunkBuilder,
     schema: &Schema,
     bytes: usize,
-) -> Result<bool, test::Fail>
+) -> bool
     requires bytes { bytes ≤ 255 }
     requires schema { builder.old.schema ≡ schema.now }
     requires few { length builder.old.rows < 1000000 }
     requires mine { P.written port.old ≡ Some builder.old.pages }
-    ensures same { OnOk result (builder.new.schema ≡ schema.now) }
-    ensures few { OnOk result (length builder.new.rows ≤ length builder.old.rows + 1) }
-    ensures mine { OnOk result (P.written port.new ≡ Some builder.new.pages) }
+    ensures same { builder.new.schema ≡ schema.now }
+    ensures few { length builder.new.rows ≤ length builder.old.rows + 1 }
+    ensures mine { P.written port.new ≡ Some builder.new.pages }
 {
-    let row = texts_of(alloc, bytes)?;
-    if !row_fits(row.as_slice(), schema.columns()) {
-        return Err("no row of the schema".into());
-    }
+    let row = texts_of(rt, alloc, bytes);
+    assert!(rt; row_fits(row.as_slice(), schema.columns()));
     match builder.push(alloc, row, port) {
-        Ok(()) => Ok(true),
-        Err(BuildFault::TooLong) => Ok(false),
-        Err(_) => Err("no row more".into()),
+        Ok(()) => true,
+        Err(BuildFault::TooLong) => false,
+        Err(_) => rt.panic("no row more"),
     }
 }
 
 #[test]
-fn goes_on_after_a_long_row(rt: HostRuntime) -> Result<(), test::Fail> {
+fn goes_on_after_a_long_row(rt: HostRuntime) {
     let alloc = rt.alloc();
-    let schema = schema_of(alloc, ColType::Text, 8)?;
-    let mut port = CleanDevice::new().port(alloc, Order::Fifo, 1)?;
-    let mut builder = builder_of(alloc, &schema)?;
-    assert!(rt; !push_texts(alloc, &mut port, &mut builder, &schema, 250)?);
-    assert!(rt; push_texts(alloc, &mut port, &mut builder, &schema, 249)?);
-    let chunk = builder.finish(alloc, &mut port)?;
+    let schema = schema_of(&rt, alloc, ColType::Text, 8);
+    let mut device = CleanDevice::new();
+    let mut port = device.port(alloc, Order::Fifo, 1).expect(&rt, "a port");
+    let mut builder = builder_of(&rt, alloc, &schema);
+    assert!(rt; !push_texts(&rt, alloc, &mut port, &mut builder, &schema, 250));
+    assert!(rt; push_texts(&rt, alloc, &mut port, &mut builder, &schema, 249));
+    let chunk = builder.finish(alloc, &mut port).expect(&rt, "a chunk");
     assert!(rt; chunk.row_count() == 1 && chunk.heap_pages() == 1);
-    Ok(())
 }

@@ -1,5 +1,5 @@
 // Devices in memory as a caller sees them; what is wanted of each is written out.
-ghost use Rattle.std.specs.Prelude.{◌≡◌, [], Some, IfOk, IsSome, OnOk};
+ghost use Rattle.std.specs.Prelude.{◌≡◌, [], Some};
 ghost use Rattle.hv_dev.specs.Reading.{unread};
 
 use crate::reads::{Seen, file_of, read_run};
@@ -8,31 +8,32 @@ use hv_dev::{
 };
 use std::alloc::{AllocError, Global};
 use std::process::Abort;
-use std::test;
 
 type CleanPort = <CleanDevice as Device>::Port;
 
 // The port of that number of a device that was just made, with room for eight reads.
 fn nth_port<D: Device>(
+    rt: &impl Abort,
     alloc: Global,
     device: &mut D,
     order: Order,
     number: u32,
-) -> Result<D::Port, AllocError>
-    ensures fresh { IfOk result (λ port. D.Port.reading port ≡ unread D.Port.File 8) }
-    ensures open { IfOk result (λ port. D.Port.written port ≡ Some []) }
+) -> D::Port
+    ensures fresh { D.Port.reading result ≡ unread D.Port.File 8 }
+    ensures open { D.Port.written result ≡ Some [] }
 {
     for _ in 0..number {
-        let _ = device.port(alloc, order, 8)?;
+        let _ = device.port(alloc, order, 8).expect(rt, "a port");
     }
-    device.port(alloc, order, 8)
+    device.port(alloc, order, 8).expect(rt, "a port")
 }
 
 // A device whose port 0 fails at one call.
-fn failing(alloc: Global, kind: FailKind, nth: u32) -> Result<MemDevice, AllocError> {
+pub fn failing(rt: &impl Abort, alloc: Global, kind: FailKind, nth: u32) -> MemDevice {
     let mut fails = Vec::new(alloc);
-    fails.push(Fail { port: 0, kind, nth })?;
-    Ok(MemDevice::new(fails))
+    let fail = Fail { port: 0, kind, nth };
+    fails.push(fail).expect(rt, "room for a call that fails");
+    MemDevice::new(fails)
 }
 
 // What a port that never fails has counted, whatever it did.
@@ -79,35 +80,29 @@ const ORDERS: [(Order, u32, [u8; 5]); 8] = [
 ];
 
 // Five reads of a clean device's port.
-fn five_reads(
-    rt: &impl Abort,
-    alloc: Global,
-    order: Order,
-    number: u32,
-) -> Result<Vec<Seen>, AllocError> {
-    let mut port = nth_port(alloc, &mut CleanDevice::new(), order, number)?;
+fn five_reads(rt: &impl Abort, alloc: Global, order: Order, number: u32) -> Vec<Seen> {
+    let mut port = nth_port(rt, alloc, &mut CleanDevice::new(), order, number);
     let file = file_of(rt, alloc, &mut port, &[1, 2, 3, 4, 5]);
     let seen = read_run(rt, alloc, &mut port, &file, 0, 5);
     counts_nothing(&port);
-    Ok(seen)
+    seen
 }
 
 #[test]
-fn lands_in_order(rt: HostRuntime) -> Result<(), test::Fail> {
+fn lands_in_order(rt: HostRuntime) {
     for (order, number, want) in ORDERS {
-        let seen = five_reads(&rt, rt.alloc(), order, number)?;
+        let seen = five_reads(&rt, rt.alloc(), order, number);
         assert!(rt;
             are_in_order(seen.as_slice(), &want),
             "{order:?}, port {number}"
         );
     }
-    Ok(())
 }
 
 #[test]
-fn reads_page_by_page(rt: HostRuntime) -> Result<(), test::Fail> {
+fn reads_page_by_page(rt: HostRuntime) {
     let alloc = rt.alloc();
-    let mut port = nth_port(alloc, &mut CleanDevice::new(), Order::Fifo, 0)?;
+    let mut port = nth_port(&rt, alloc, &mut CleanDevice::new(), Order::Fifo, 0);
     let file = file_of(&rt, alloc, &mut port, &[7, 8, 9]);
     let first = read_run(&rt, alloc, &mut port, &file, 0, 1);
     let second = read_run(&rt, alloc, &mut port, &file, 1, 1);
@@ -115,7 +110,6 @@ fn reads_page_by_page(rt: HostRuntime) -> Result<(), test::Fail> {
     assert!(rt; are_all(first.as_slice(), 1, 7));
     assert!(rt; are_all(second.as_slice(), 1, 8));
     assert!(rt; are_all(third.as_slice(), 1, 9));
-    Ok(())
 }
 
 // Whether so many reads landed, in the order of their submits, and all their pages are full of a byte.
@@ -129,40 +123,37 @@ fn are_all(seen: &[Seen], count: usize, byte: u8) -> bool {
 }
 
 #[test]
-fn abandons_all_pages(rt: HostRuntime) -> Result<(), test::Fail> {
+fn abandons_all_pages(rt: HostRuntime) {
     let alloc = rt.alloc();
-    let mut port = nth_port(alloc, &mut CleanDevice::new(), Order::Fifo, 0)?;
-    port.write(alloc, &[7; 4096])?;
+    let mut port = nth_port(&rt, alloc, &mut CleanDevice::new(), Order::Fifo, 0);
+    port.write(alloc, &[7; 4096]).expect(&rt, "a write");
     port.abandon();
     let file = file_of(&rt, alloc, &mut port, &[8]);
     let seen = read_run(&rt, alloc, &mut port, &file, 0, 1);
     assert!(rt; are_all(seen.as_slice(), 1, 8));
-    Ok(())
 }
 
 // A device that doesn't tell may be asked for a page that the file lacks.
 #[test]
-fn brings_zeros_for_a_page_that_a_file_lacks(rt: HostRuntime) -> Result<(), test::Fail> {
+fn brings_zeros_for_a_page_that_a_file_lacks(rt: HostRuntime) {
     let alloc = rt.alloc();
-    let mut port = nth_port(alloc, &mut Rotten::new(1, 1, 0), Order::Fifo, 0)?;
+    let mut port = nth_port(&rt, alloc, &mut Rotten::new(1, 1, 0), Order::Fifo, 0);
     let _ = port.write(alloc, &[7; 4096]);
     port.abandon();
     let file = file_of(&rt, alloc, &mut port, &[8]);
     let seen = read_run(&rt, alloc, &mut port, &file, 1, 2);
     assert!(rt; are_all(seen.as_slice(), 2, 0));
-    Ok(())
 }
 
 #[test]
-fn counts_submits_and_the_most(rt: HostRuntime) -> Result<(), test::Fail> {
+fn counts_submits_and_the_most(rt: HostRuntime) {
     let alloc = rt.alloc();
-    let mut port = nth_port(alloc, &mut CleanDevice::new(), Order::Lifo, 0)?;
+    let mut port = nth_port(&rt, alloc, &mut CleanDevice::new(), Order::Lifo, 0);
     assert!(rt; port.count_submits() == 0 && port.count_most() == 0);
     let file = file_of(&rt, alloc, &mut port, &[1, 1, 1]);
     let _ = read_run(&rt, alloc, &mut port, &file, 0, 3);
     let _ = read_run(&rt, alloc, &mut port, &file, 0, 2);
     assert!(rt; port.count_submits() == 5 && port.count_most() == 3);
-    Ok(())
 }
 
 // Those of the first four writes that fail, as the digits of a number.
@@ -190,31 +181,28 @@ fn failed_seals<P: PageSink>(alloc: Global, port: &mut P) -> u32 {
 }
 
 #[test]
-fn a_write_fails_at_the_call_told(rt: HostRuntime) -> Result<(), test::Fail> {
+fn a_write_fails_at_the_call_told(rt: HostRuntime) {
     for nth in 1..4 {
-        let mut device = failing(rt.alloc(), FailKind::Write, nth)?;
-        let mut port = nth_port(rt.alloc(), &mut device, Order::Fifo, 0)?;
+        let mut device = failing(&rt, rt.alloc(), FailKind::Write, nth);
+        let mut port = nth_port(&rt, rt.alloc(), &mut device, Order::Fifo, 0);
         assert!(rt; failed_writes(rt.alloc(), &mut port) == nth);
     }
-    Ok(())
 }
 
 #[test]
-fn a_seal_fails_at_the_call_told(rt: HostRuntime) -> Result<(), test::Fail> {
+fn a_seal_fails_at_the_call_told(rt: HostRuntime) {
     for nth in 1..4 {
-        let mut device = failing(rt.alloc(), FailKind::Seal, nth)?;
-        let mut port = nth_port(rt.alloc(), &mut device, Order::Fifo, 0)?;
+        let mut device = failing(&rt, rt.alloc(), FailKind::Seal, nth);
+        let mut port = nth_port(&rt, rt.alloc(), &mut device, Order::Fifo, 0);
         assert!(rt; failed_seals(rt.alloc(), &mut port) == nth);
     }
-    Ok(())
 }
 
 #[test]
-fn other_ports_do_not_fail(rt: HostRuntime) -> Result<(), test::Fail> {
-    let mut device = failing(rt.alloc(), FailKind::Write, 1)?;
-    let mut port = nth_port(rt.alloc(), &mut device, Order::Fifo, 1)?;
+fn other_ports_do_not_fail(rt: HostRuntime) {
+    let mut device = failing(&rt, rt.alloc(), FailKind::Write, 1);
+    let mut port = nth_port(&rt, rt.alloc(), &mut device, Order::Fifo, 1);
     assert!(rt; port.write(rt.alloc(), &[1; 4096]) == Ok(()));
-    Ok(())
 }
 
 // Whether the reads came back in that order, and which of them landed.
@@ -242,20 +230,19 @@ fn three_reads<D: Device>(
     device: &mut D,
     order: Order,
     number: u32,
-) -> Result<Vec<Seen>, AllocError> {
-    let mut port = nth_port(alloc, device, order, number)?;
+) -> Vec<Seen> {
+    let mut port = nth_port(rt, alloc, device, order, number);
     let file = file_of(rt, alloc, &mut port, &[6, 6, 6]);
-    Ok(read_run(rt, alloc, &mut port, &file, 0, 3))
+    read_run(rt, alloc, &mut port, &file, 0, 3)
 }
 
 #[test]
-fn reads_fail_by_the_order_of_landing(rt: HostRuntime) -> Result<(), test::Fail> {
+fn reads_fail_by_the_order_of_landing(rt: HostRuntime) {
     for (order, nth, want) in FAILED_READS {
-        let mut device = failing(rt.alloc(), FailKind::Read, nth)?;
-        let seen = three_reads(&rt, rt.alloc(), &mut device, order, 0)?;
+        let mut device = failing(&rt, rt.alloc(), FailKind::Read, nth);
+        let seen = three_reads(&rt, rt.alloc(), &mut device, order, 0);
         assert!(rt; are_told(seen.as_slice(), &want), "{order:?}, told {nth}");
     }
-    Ok(())
 }
 
 // Whether the pages are full of 6, but for byte 100 of one read.
@@ -273,17 +260,16 @@ fn are_sixes(seen: &[Seen], rotten: usize) -> bool {
 }
 
 #[test]
-fn one_bit_rots(rt: HostRuntime) -> Result<(), test::Fail> {
+fn one_bit_rots(rt: HostRuntime) {
     // The port's number, the read that is told, and the one of three that rots.
     for (number, nth, rotten) in [(1, 1, 0), (1, 2, 1), (1, 4, 3), (0, 1, 3)] {
         let mut device = Rotten::new(1, nth, 100);
-        let seen = three_reads(&rt, rt.alloc(), &mut device, Order::Fifo, number)?;
+        let seen = three_reads(&rt, rt.alloc(), &mut device, Order::Fifo, number);
         assert!(rt;
             are_sixes(seen.as_slice(), rotten),
             "port {number}, told {nth}"
         );
     }
-    Ok(())
 }
 
 // A port goes out and comes back.
