@@ -97,7 +97,11 @@ impl PackedRows {
         ensures spelled { row_spelled self.now.schema result.now ≡ get_or self.now.rows place [] }
     {
         let ends = self.ends.as_slice();
-        part(self.bytes.as_slice(), start_of(ends, place), end_of(ends, place))
+        part(
+            self.bytes.as_slice(),
+            start_of(ends, place),
+            end_of(ends, place),
+        )
     }
 
     /// The value of a column of the row at a place, both counted from 0; `None` where the row has no such column.
