@@ -8,23 +8,26 @@ use rand_core::utils::NextWord;
 use rand_pcg::Pcg32;
 use std::alloc::{AllocError, Global};
 
-// How many sessions call.
-const SESSIONS: u32 = 64;
-
-/// Fills a pool of so many frames with pages, makes so many rounds on it, and gives the sum of the numbers that were answered.
+/// Fills a pool of so many frames with pages, makes so many rounds on it by so many sessions, and gives the sum of the numbers that were answered.
 /// There are twice as many pages as frames, so that in about half of the rounds a page is here.
-pub fn make_rounds(alloc: Global, frames: u32, rounds: u32) -> Result<u64, AllocError>
-    requires { (1 ≤ frames) × (frames ≤ 1000000) }
+pub fn make_rounds(
+    alloc: Global,
+    frames: u32,
+    rounds: u32,
+    sessions: u32,
+) -> Result<u64, AllocError>
+    requires frames { (1 ≤ frames) × (frames ≤ 1000000) }
+    requires sessions { (1 ≤ sessions) × (sessions ≤ 64) }
 {
     let mut fixture = Fixture::new(alloc, frames)?;
     let mut random = Pcg32::seed_from_u64(7);
     let mut sum: u64 = 0;
     for page in 0..frames {
-        sum = sum.wrapping_add(use_page(&mut fixture, page, page % SESSIONS));
+        sum = sum.wrapping_add(use_page(&mut fixture, page, page % sessions));
     }
     for round in 0..rounds {
         let page = random.next_word() % (2 * frames);
-        let session = round % SESSIONS;
+        let session = round % sessions;
         sum = sum.wrapping_add(use_page(&mut fixture, page, session));
         if round % 16 == 0 {
             leave_page(&mut fixture, page, session);
