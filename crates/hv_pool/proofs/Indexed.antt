@@ -355,22 +355,22 @@ index_keeps links slots n old v o within is key_is less = record {
 under_key : (old v : Slot) → v.key ≡ old.key → stands old.held ≡ true → (k : PageKey) → under k v ≡ true → under k old ≡ true
 under_key old v key stand k u = ap (λ b. b && same_key k old.key) stand ∙ subst (λ z. same_key k z ≡ true) key (both (stands v.held) (same_key k v.key) u).1
 
-returned_key : (away : Held → Bool) (key : PageKey) (frame : Framed) (came : ℕ) (s v : Slot) → v ≡ returned away key frame came s → v.key ≡ s.key
-returned_key away key frame came s v v_is = ap (λ (z : Slot). z.key) v_is ∙ go (away s.held && same_key key s.key)
+returned_key : (away : Held → Bool) (formed : Bool) (key : PageKey) (frame : Framed) (came : ℕ) (s v : Slot) → v ≡ returned away formed key frame came s → v.key ≡ s.key
+returned_key away formed key frame came s v v_is = ap (λ (z : Slot). z.key) v_is ∙ go (away s.held && same_key key s.key)
   where
-    go : (b : Bool) → (if b then cached_as came frame s else freed frame s).key ≡ s.key
+    go : (b : Bool) → (if b then cached_as came formed frame s else freed frame s).key ≡ s.key
     go true = refl
     go false = refl
 
 -- the place of a frame that is away keeps its key
-pub return_index : (links : List ℕ) (owner : Ptr) (slots : List Slot) (came openings n : ℕ) (away : Held → Bool) (key : PageKey) (frame : Framed) (old v : Slot) → IsIndexed links slots → IsInOrder owner slots came openings → 0 < count_by (is_away n) slots → old ≡ get_or slots n old → v ≡ returned away key frame came old → IsIndexed links (set slots n v)
-return_index links owner slots came openings n away key frame old v indexed o h is v_is =
+pub return_index : (links : List ℕ) (owner : Ptr) (slots : List Slot) (came openings n : ℕ) (away : Held → Bool) (formed : Bool) (key : PageKey) (frame : Framed) (old v : Slot) → IsIndexed links slots → IsInOrder owner slots came openings → 0 < count_by (is_away n) slots → old ≡ get_or slots n old → v ≡ returned away formed key frame came old → IsIndexed links (set slots n v)
+return_index links owner slots came openings n away formed key frame old v indexed o h is v_is =
     let p = at_place owner slots came openings n old o h is in
-    let named = returned_key away key frame came old v v_is in
+    let named = returned_key away formed key frame came old v v_is in
     index_keeps links slots n old v indexed p.0.within is named (under_key old v named p.0.stand)
 
 takes_key : (old v : Slot) (who : ℕ) (result : Ask) → Takes old who result v → v.key ≡ old.key
-takes_key old v who (ask.Hit frame) t = ap (λ (z : Slot). z.key) t.2
+takes_key old v who (ask.Hit frame formed) t = ap (λ (z : Slot). z.key) t.2
 takes_key old v who (ask.Start frame) t = absurd t
 takes_key old v who (ask.Reading other) t = ap (λ (z : Slot). z.key) t.1
 takes_key old v who (ask.Busy other) t = ap (λ (z : Slot). z.key) t.1

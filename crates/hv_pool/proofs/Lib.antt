@@ -5,3 +5,4 @@ pub mod Chains
 pub mod Indexed
 pub mod Ordered
 pub mod Others
+pub mod Owing

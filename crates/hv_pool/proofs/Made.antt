@@ -19,10 +19,10 @@ use Rattle.hv_pool.specs.declared.slot.Slot.{Slot}
 use Rattle.hv_pool.specs.declared.slot.Held.{Held}
 use Rattle.hv_pool.specs.declared.slot.Held.TheVariants as held
 use Rattle.hv_pool.specs.Key.{same_key}
-use Rattle.hv_pool.specs.Slots.{is_free, is_cached, is_reading, is_in_hand, is_open, is_gone, is_numbered, stands, under, waits_bit, without_wait, Holds}
+use Rattle.hv_pool.specs.Slots.{is_free, is_cached, is_reading, is_in_hand, is_open, is_gone, is_numbered, stands, under, waits_bit, without_wait, IsWithSession, Holds}
 use Rattle.hv_pool.specs.Shape.{IsInOrder}
 use Rattle.hv_pool.specs.Made.{here, AreOfOne, IsFresh, IsFilled, empty_slot, owner_of}
-use Rattle.hv_pool.proofs.Places.{get_or_any, number_at, every_number, split_at, weighed}
+use Rattle.hv_pool.proofs.Places.{less_narrow, get_or_any, number_at, every_number, split_at, weighed}
 use Rattle.std.proofs.lemmas.List.Concat.{flat_map-append}
 use denote.RawPtr.{Ptr}
 use Rattle.hv_pool.specs.Moves.{moved, forgotten}
@@ -130,7 +130,7 @@ pub record Filling (frames left : List Framed) (slots : List Slot) : Type 0 wher
   pub among : IsPermutation frames (left ++ here slots)
 
 pub fill_more : (frames gs : List Framed) (slots : List Slot) (frame : Framed) (n : ℕ) (d v : Slot) → AreOfOne frames → Filling frames (gs ++ frame ∷ []) slots → n ≡ frame.number
-    → v ≡ moved (get_or slots n d) (get_or slots n d).key (get_or slots n d).held (get_or slots n d).came (get_or slots n d).waits (Some frame) → Filling frames gs (set slots n v)
+    → v ≡ moved (get_or slots n d) (get_or slots n d).key (get_or slots n d).held (get_or slots n d).came (get_or slots n d).waits (get_or slots n d).formed (Some frame) → Filling frames gs (set slots n v)
 fill_more frames gs slots frame n d v o f is v_is =
     let within = place_fits frames gs slots frame n o f.numbers f.among is in
     let empty : (get_or slots n d).frame ≡ None = place_empty frames gs slots frame n d o f.numbers f.fresh f.among is in
@@ -139,7 +139,7 @@ fill_more frames gs slots frame n d v o f is v_is =
     let again : get_or slots n d ≡ get_or slots n (get_or slots n d) = get_or_any slots n d (get_or slots n d) within in
     record {
       numbers = map-set_same (λ (z : Slot). z.number) slots n v (get_or slots n d) (ap (λ (z : Slot). z.number) v_is ∙ ap (λ (z : Slot). z.number) again) ∙ f.numbers;
-      fresh = All-set IsFresh slots n v (subst IsFresh (sym v_is) (record { held = old.held; came = old.came; waits = old.waits; frame = sym is ∙ sym number })) f.fresh;
+      fresh = All-set IsFresh slots n v (subst IsFresh (sym v_is) (record { held = old.held; came = old.came; waits = old.waits; formed = old.formed; frame = sym is ∙ sym number })) f.fresh;
       among = IsPermutation-trans frames (frame ∷ (gs ++ here slots)) (gs ++ here (set slots n v)) (moved_out frames gs (here slots) frame f.among)
           (IsPermutation-trans (frame ∷ (gs ++ here slots)) (gs ++ frame ∷ here slots) (gs ++ here (set slots n v))
           (IsPermutation-sym (gs ++ frame ∷ here slots) (frame ∷ (gs ++ here slots)) (IsPermutation-middle gs frame (here slots)))
@@ -157,7 +157,7 @@ empty_here (n ∷ ns) = empty_here ns
 pub fill_none : (frames : List Framed) (slots : List Slot) → slots ≡ map empty_slot (range_with_len 0 (length frames)) → Filling frames frames slots
 fill_none frames slots is = subst (λ z. Filling frames frames z) (sym is) (record {
   numbers = empty_numbers (range_with_len 0 (length frames));
-  fresh = All-map IsFresh empty_slot (range_with_len 0 (length frames)) (λ k d within. record { held = refl; came = refl; waits = refl; frame = tt });
+  fresh = All-map IsFresh empty_slot (range_with_len 0 (length frames)) (λ k d within. record { held = refl; came = refl; waits = refl; formed = refl; frame = tt });
   among = subst (λ z. IsPermutation frames (frames ++ z)) (sym (empty_here (range_with_len 0 (length frames)))) (subst (λ z. IsPermutation frames z) (sym (append-nil frames)) (IsPermutation-refl frames));
 })
 
@@ -240,6 +240,9 @@ filled_order frames slots o f =
               away = λ q. absurd (true≢false (sym (ap (λ h. is_free h || is_cached h) g.held) ∙ q));
               true_page = λ q. absurd (true≢false (sym q ∙ ap is_cached g.held));
               nobody = λ q. g.waits;
+              session = subst IsWithSession (sym g.held) tt;
+              narrow = omega (arith, g.waits);
+              noted = λ q. absurd (true≢false (sym q ∙ g.formed));
             };
       };
       placed = f.numbers ∙ ap (range_with_len 0) (sym long);
@@ -298,7 +301,7 @@ forgets_order owner slots came openings more who o opens =
         numbers = λ m. omega (arith, o.pool.numbers m, count_forgotten who (is_numbered m) slots (λ s. refl));
         keys = λ key. omega (arith, o.pool.keys key, count_forgotten who (under key) slots (λ s. refl));
         holds = All-map (Holds owner) (forgotten who) slots (λ k d within. let h = o.pool.holds k d within in
-            record { here = h.here; away = h.away; true_page = h.true_page; nobody = λ q. ap (without_wait who) (h.nobody q) ∙ and_zero_l (bit_not w64 (1 * 2 ^ who % 2 ^ 64)) });
+            record { here = h.here; away = h.away; true_page = h.true_page; nobody = λ q. ap (without_wait who) (h.nobody q) ∙ and_zero_l (bit_not w64 (1 * 2 ^ who % 2 ^ 64)); session = h.session; narrow = less_narrow who _ h.narrow; noted = h.noted });
       };
       placed = numbers_forgotten who slots ∙ o.placed ∙ ap (range_with_len 0) (sym long);
       counted = opens;
@@ -311,7 +314,7 @@ forgets_order owner slots came openings more who o opens =
 
 -- a wait that doesn't stand may end
 pub forgotten_same : (who : ℕ) (s : Slot) → who < 64 → s.waits < 2 ^ 64 → waits_bit who s.waits ≡ false → forgotten who s ≡ s
-forgotten_same who s within narrow off = ap (λ (w : ℕ). moved s s.key s.held s.came w s.frame) (same_from_bits (without_wait who s.waits) s.waits (λ i. go i (cases_eq i who)))
+forgotten_same who s within narrow off = ap (λ (w : ℕ). moved s s.key s.held s.came w s.formed s.frame) (same_from_bits (without_wait who s.waits) s.waits (λ i. go i (cases_eq i who)))
   where
     ends : bit_at s.waits who ≡ 0
     ends = omega (arith, eqb-false (bit_at s.waits who) 1 off, bit_at-lt s.waits who)

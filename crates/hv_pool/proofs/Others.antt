@@ -15,12 +15,12 @@ use Rattle.hv_pool.specs.declared.seen.Ask.{Ask}
 use Rattle.hv_pool.specs.declared.seen.Ask.TheVariants as ask
 use Rattle.hv_pool.specs.Key.{same_key}
 use Rattle.hv_pool.specs.Slots.{Pooled, IsPool, stands, under, is_free, is_cached, is_open, is_reading_for, is_in_hand_of, is_held_by, is_numbered, waits_bit, waits_at}
-use Rattle.hv_pool.specs.Moves.{Moves, Asks, Arrives, brings, taken_by, started_by, joined_by, returned, cached_as, freed}
+use Rattle.hv_pool.specs.Moves.{Moves, Asks, Arrives, brings, notes, taken_by, started_by, joined_by, returned, cached_as, freed}
 use Rattle.hv_pool.proofs.Places.{weighed, both, count_le}
 use Rattle.hv_pool.proofs.Laws.{moves_weigh, and_false}
 
 -- where a test is the same before and after, as many pass
-same_count : (old new : Pooled) (before after : Slot) → Moves old new before after → (test : Slot → Bool) → test after ≡ test before → count_by test new.slots ≡ count_by test old.slots
+pub same_count : (old new : Pooled) (before after : Slot) → Moves old new before after → (test : Slot → Bool) → test after ≡ test before → count_by test new.slots ≡ count_by test old.slots
 same_count old new before after m test same = omega (arith, moves_weigh old new before after m (λ s. cond (test s) 1 0), ap {B = ℕ} (λ b. cond b 1 0) same)
 
 -- nobody waits for the page of a frame that may be taken
@@ -36,7 +36,7 @@ open_unwaited who key s opens = go s.held (nat_eq s.waits 0) refl opens
 
 -- another's ask leaves a session's waits
 pub asks_leave_waits : (old new : Pooled) (key : PageKey) (who : ℕ) (answer : Ask) (other : ℕ) → who < 64 → other < 64 → ¬ (other ≡ who) → Asks old key who answer new → (k : PageKey) → count_by (waits_at other k) new.slots ≡ count_by (waits_at other k) old.slots
-asks_leave_waits old new key who (ask.Hit frame) other a b apart h k =
+asks_leave_waits old new key who (ask.Hit frame formed) other a b apart h k =
     same_count old new h.slot (taken_by who h.slot) h.change (waits_at other k)
     (ap (λ (n : ℕ). same_key k h.slot.key && nat_eq n 1) (bit_at_clear_other w64 h.slot.waits who a other b apart) ∙ ap (λ x. (stands x && same_key k h.slot.key) && waits_bit other h.slot.waits) (sym h.is))
 asks_leave_waits old new key who (ask.Start frame) other a b apart h k =
@@ -65,7 +65,7 @@ open_unheld other s opens = go s.held opens
 
 -- another's ask leaves the frames that a session has, but for who else waits for their pages
 pub asks_leave_frames : (old new : Pooled) (key : PageKey) (who : ℕ) (answer : Ask) (other : ℕ) → ¬ (other ≡ who) → Asks old key who answer new → (weight : Slot → ℕ) → ((s : Slot) → is_held_by other s ≡ false → weight s ≡ 0) → ((s : Slot) → weight (joined_by who s) ≡ weight s) → sum_by weight new.slots ≡ sum_by weight old.slots
-asks_leave_frames old new key who (ask.Hit frame) other apart h weight its joins =
+asks_leave_frames old new key who (ask.Hit frame formed) other apart h weight its joins =
     same_sum old new h.slot (taken_by who h.slot) h.change weight
     (its (taken_by who h.slot) (ne_eqb who other (λ e. apart (sym e))) ∙ sym (its h.slot (not_held other h.slot held.Cached h.is refl)))
 asks_leave_frames old new key who (ask.Start frame) other apart h weight its joins =
@@ -76,18 +76,18 @@ asks_leave_frames old new key who (ask.Busy holder) other apart h weight its joi
 asks_leave_frames old new key who (ask.Full frames) other apart h weight its joins = ap (λ (p : Pooled). sum_by weight p.slots) h.0
 
 -- the place to which a frame comes back
-record Came (way : Arrival) (old : Pooled) (key : PageKey) (frame : Framed) (new : Pooled) : Type 0 where
+pub record Came (way : Arrival) (old : Pooled) (key : PageKey) (frame : Framed) (new : Pooled) : Type 0 where
   pub slot : Slot
   pub number : slot.number ≡ frame.number
-  pub change : Moves old new slot (returned (brings way) key frame old.came slot)
+  pub change : Moves old new slot (returned (brings way) (notes way) key frame old.came slot)
 
-came : (way : Arrival) (old : Pooled) (key : PageKey) (frame : Framed) (new : Pooled) → Arrives way old key frame new → Came way old key frame new
+pub came : (way : Arrival) (old : Pooled) (key : PageKey) (frame : Framed) (new : Pooled) → Arrives way old key frame new → Came way old key frame new
 came arrival.Landed old key frame new a = record { slot = a.slot; number = a.number; change = a.change }
-came arrival.Back old key frame new a = record { slot = a.slot; number = a.number; change = a.change }
+came (arrival.Back formed) old key frame new a = record { slot = a.slot; number = a.number; change = a.change }
 came arrival.Lost old key frame new a = record { slot = a.slot; number = a.number; change = a.change }
 
 -- what is found at the frame's number is so of its place
-the_place : (way : Arrival) (old : Pooled) (key : PageKey) (frame : Framed) (new : Pooled) → IsPool old → (r : Came way old key frame new) → (test : Slot → Bool) → 0 < count_by (λ s. nat_eq s.number frame.number && test s) old.slots → test r.slot ≡ true
+pub the_place : (way : Arrival) (old : Pooled) (key : PageKey) (frame : Framed) (new : Pooled) → IsPool old → (r : Came way old key frame new) → (test : Slot → Bool) → 0 < count_by (λ s. nat_eq s.number frame.number && test s) old.slots → test r.slot ≡ true
 the_place way old key frame new pool r test some = go (test r.slot) refl
   where
     numbered : nat_eq r.slot.number frame.number ≡ true
@@ -123,11 +123,11 @@ one_holder who other (held.InHand h) e apart = ne_eqb h other (λ q. apart (sym 
 pub arrivals_leave_frames : (way : Arrival) (old new : Pooled) (key : PageKey) (frame : Framed) (who other : ℕ) → IsPool old → Arrives way old key frame new → ¬ (other ≡ who) → 0 < count_by (λ s. nat_eq s.number frame.number && is_held_by who s) old.slots → (weight : Slot → ℕ) → ((s : Slot) → is_held_by other s ≡ false → weight s ≡ 0) → sum_by weight new.slots ≡ sum_by weight old.slots
 arrivals_leave_frames way old new key frame who other pool a apart his weight its =
     let r = came way old key frame new a in
-    same_sum old new r.slot (returned (brings way) key frame old.came r.slot) r.change weight
-    (its (returned (brings way) key frame old.came r.slot) (here (brings way r.slot.held && same_key key r.slot.key) r.slot)
+    same_sum old new r.slot (returned (brings way) (notes way) key frame old.came r.slot) r.change weight
+    (its (returned (brings way) (notes way) key frame old.came r.slot) (here (brings way r.slot.held && same_key key r.slot.key) r.slot)
     ∙ sym (its r.slot (one_holder who other r.slot.held (the_place way old key frame new pool r (is_held_by who) his) apart)))
   where
-    here : (b : Bool) (s : Slot) → is_held_by other (if b then cached_as old.came frame s else freed frame s) ≡ false
+    here : (b : Bool) (s : Slot) → is_held_by other (if b then cached_as old.came (notes way) frame s else freed frame s) ≡ false
     here true s = refl
     here false s = refl
 
@@ -137,10 +137,10 @@ brings_stands arrival.Landed held.Free e = e
 brings_stands arrival.Landed held.Cached e = refl
 brings_stands arrival.Landed (held.Reading who) e = refl
 brings_stands arrival.Landed (held.InHand who) e = refl
-brings_stands arrival.Back held.Free e = e
-brings_stands arrival.Back held.Cached e = refl
-brings_stands arrival.Back (held.Reading who) e = refl
-brings_stands arrival.Back (held.InHand who) e = refl
+brings_stands (arrival.Back formed) held.Free e = e
+brings_stands (arrival.Back formed) held.Cached e = refl
+brings_stands (arrival.Back formed) (held.Reading who) e = refl
+brings_stands (arrival.Back formed) (held.InHand who) e = refl
 brings_stands arrival.Lost h e = absurd (true≢false (sym e))
 
 -- where a frame comes back with the page that it was away for, all waits stay
@@ -148,8 +148,8 @@ pub arrivals_keep_waits : (way : Arrival) (old new : Pooled) (key : PageKey) (fr
 arrivals_keep_waits way old new key frame pool a its who k =
     let r = came way old key frame new a in
     let fits = the_place way old key frame new pool r (λ s. brings way s.held && same_key key s.key) its in
-    same_count old new r.slot (returned (brings way) key frame old.came r.slot) r.change (waits_at who k)
-    (ap (λ b. waits_at who k (if b then cached_as old.came frame r.slot else freed frame r.slot)) fits
+    same_count old new r.slot (returned (brings way) (notes way) key frame old.came r.slot) r.change (waits_at who k)
+    (ap (λ b. waits_at who k (if b then cached_as old.came (notes way) frame r.slot else freed frame r.slot)) fits
     ∙ ap (λ b. (b && same_key k r.slot.key) && waits_bit who r.slot.waits) (sym (brings_stands way r.slot.held (both (brings way r.slot.held) (same_key key r.slot.key) fits).0)))
 
 -- the waits for each page but that under which a frame stood stay where it comes back
@@ -157,7 +157,7 @@ pub arrivals_leave_waits : (way : Arrival) (old new : Pooled) (key : PageKey) (f
 arrivals_leave_waits way old new key frame a who k none =
     let r = came way old key frame new a in
     let off = apart r in
-    same_count old new r.slot (returned (brings way) key frame old.came r.slot) r.change (waits_at who k)
+    same_count old new r.slot (returned (brings way) (notes way) key frame old.came r.slot) r.change (waits_at who k)
     (go r.slot off (brings way r.slot.held && same_key key r.slot.key) refl ∙ sym (ap (λ b. b && waits_bit who r.slot.waits) off))
   where
     apart : (r : Came way old key frame new) → under k r.slot ≡ false
@@ -175,6 +175,6 @@ arrivals_leave_waits way old new key frame a who k none =
               ap {B = ℕ} (λ z. cond z 1 0) e,
             ))
 
-    go : (s : Slot) → under k s ≡ false → (b : Bool) → brings way s.held && same_key key s.key ≡ b → waits_at who k (if b then cached_as old.came frame s else freed frame s) ≡ false
+    go : (s : Slot) → under k s ≡ false → (b : Bool) → brings way s.held && same_key key s.key ≡ b → waits_at who k (if b then cached_as old.came (notes way) frame s else freed frame s) ≡ false
     go s off false e = refl
     go s off true e = ap (λ b. b && waits_bit who s.waits) (sym (ap (λ b. b && same_key k s.key) (brings_stands way s.held (both (brings way s.held) (same_key key s.key) e).0)) ∙ off)

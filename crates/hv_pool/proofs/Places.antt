@@ -1,11 +1,13 @@
 -- A place of a pool changes.
-use Rattle.std.proofs.Common.{◌≡◌, ℕ, zero, suc, ◌+◌, ◌<◌, ◌≤◌, ◌^◌, Bool, true, false, cond, ◌&&◌, ◌||◌, nat_eq, if◌then◌else◌, List, [], ◌∷◌, map, length, get_or, set, refl, sym, ap, ◌∙◌, subst, arith, IsPermutation, Some, None, true≢false}
+use Rattle.std.proofs.Common.{◌≡◌, ℕ, zero, suc, ◌+◌, ◌*◌, ◌%◌, ◌<◌, ◌≤◌, ◌^◌, Bool, true, false, cond, ◌&&◌, ◌||◌, nat_eq, if◌then◌else◌, List, [], ◌∷◌, map, length, get_or, set, refl, sym, ap, ◌∙◌, subst, arith, IsPermutation, Some, None, true≢false}
 use Rattle.std.specs.Prelude.{All, IfSome}
 use Rattle.std.specs.List.{sum_by, count_by, range_with_len}
 use Rattle.std.proofs.Common.{◌-◌}
 use Rattle.std.specs.Cmp.Lexicographic.{same_text}
 use Rattle.std.proofs.Math.Seq.{map-set_same}
 use Rattle.std.proofs.lemmas.Bool.{eqb-true, eq-eqb, lt-ltb}
+use Rattle.std.proofs.lemmas.Nat.{and_le_l, mod_below, or_lt}
+use Rattle.std.specs.Int.{w64, bit_not}
 use Rattle.std.proofs.lemmas.List.{get_or-map, get_or-set_same, length-map, length-set}
 use Rattle.std.proofs.lemmas.List.FromFn.{get_or-range_with_len, length-range_with_len}
 use Rattle.std.proofs.lemmas.List.Elements.{All-set}
@@ -21,8 +23,8 @@ use Rattle.hv_pool.specs.Key.{same_key}
 use Rattle.hv_pool.specs.declared.seen.Seen.{Seen}
 use Rattle.hv_pool.specs.declared.seen.Seen.TheVariants as seen
 use Rattle.std.proofs.Common.{nat_lt}
-use Rattle.hv_pool.specs.Slots.{Pooled, IsPool, Holds, is_free, is_cached, is_reading, is_in_hand, is_open, is_numbered, is_away, IsAway, stands, under, seen_at, cached_at, in_hand_at, reading_at, with_wait}
-use Rattle.hv_pool.specs.Moves.{Moves, Arrives, returned, brings, came_after, cached_as, freed, Takes, Asks, answer_of, started_by}
+use Rattle.hv_pool.specs.Slots.{Pooled, IsPool, Holds, is_free, is_cached, is_reading, is_in_hand, is_open, is_numbered, is_away, IsAway, stands, under, seen_at, cached_at, in_hand_at, reading_at, with_wait, without_wait}
+use Rattle.hv_pool.specs.Moves.{Moves, Arrives, returned, brings, notes, came_after, cached_as, freed, Takes, Asks, answer_of, started_by}
 use Rattle.hv_pool.specs.declared.slot.Arrival.{Arrival}
 use Rattle.hv_pool.specs.declared.slot.Arrival.TheVariants as arrival
 use Rattle.hv_pool.specs.declared.seen.Ask.{Ask}
@@ -106,7 +108,7 @@ get_or_any (z ∷ zs) zero x y within = refl
 get_or_any (z ∷ zs) (suc n) x y within = get_or_any zs n x y (omega (arith, within))
 
 pub no_slot : Slot
-no_slot = record { number = 0; key = record { chunk = 0; page = 0; digest = [] }; held = held.Free; came = 0; waits = 0; frame = None }
+no_slot = record { number = 0; key = record { chunk = 0; page = 0; digest = [] }; held = held.Free; came = 0; waits = 0; formed = false; frame = None }
 
 pub number_at : (slots : List Slot) (n k : ℕ) (d : Slot) → map (λ s. s.number) slots ≡ range_with_len 0 n → length slots ≡ n → k < length slots → (get_or slots k d).number ≡ k
 number_at slots n k d numbers long within = sym (get_or-map (λ (s : Slot). s.number) slots k d 0 within) ∙ ap (λ l. get_or l k 0) numbers ∙ get_or-range_with_len 0 n k 0 (omega (arith, within, long)) ∙ omega arith
@@ -148,21 +150,28 @@ pub put_order : (owner : Ptr) (slots : List Slot) (came later openings more n : 
 put_order owner slots came later openings more n old v o within is number less holds opens =
     put_any owner slots came later openings more n old v o within is number (λ k. omega (arith, o.pool.keys k, fewer (under k v) (under k old) (less k))) holds opens
 
+-- waits are a bit each of 64, with one more and with one less
+more_narrow : (who waits : ℕ) → waits < 2 ^ 64 → with_wait who waits < 2 ^ 64
+more_narrow who waits narrow = or_lt 64 waits (1 * 2 ^ who % 2 ^ 64) narrow (mod_below (1 * 2 ^ who) (2 ^ 64) (omega arith))
+
+pub less_narrow : (who waits : ℕ) → waits < 2 ^ 64 → without_wait who waits < 2 ^ 64
+less_narrow who waits narrow = omega (arith, narrow, and_le_l waits (bit_not w64 (1 * 2 ^ who % 2 ^ 64)))
+
 -- what comes back to its place
-pub returned_holds : (owner : Ptr) (away : Held → Bool) (key : PageKey) (frame : Framed) (came n : ℕ) (slots : List Slot) (s : Slot) → Place slots n s → frame.owner ≡ owner → frame.number ≡ n → ((h : Held) → away h ≡ true → sha256 frame.bytes ≡ key.digest)
-    → Holds owner (returned away key frame came s) × ((k : PageKey) → under k (returned away key frame came s) ≡ true → under k s ≡ true) × ((returned away key frame came s).number ≡ s.number)
-returned_holds owner away key frame came n slots s p own number digest = go (away s.held && same_key key s.key) refl
+pub returned_holds : (owner : Ptr) (away : Held → Bool) (formed : Bool) (key : PageKey) (frame : Framed) (came n : ℕ) (slots : List Slot) (s : Slot) → Place slots n s → frame.owner ≡ owner → frame.number ≡ n → s.waits < 2 ^ 64 → ((h : Held) → away h ≡ true → sha256 frame.bytes ≡ key.digest)
+    → Holds owner (returned away formed key frame came s) × ((k : PageKey) → under k (returned away formed key frame came s) ≡ true → under k s ≡ true) × ((returned away formed key frame came s).number ≡ s.number)
+returned_holds owner away formed key frame came n slots s p own number narrow digest = go (away s.held && same_key key s.key) refl
   where
     here : (f : Framed) × (Some frame ≡ Some f) × (f.owner ≡ owner) × (f.number ≡ s.number)
     here = (frame, refl, own, number ∙ sym p.number)
 
-    go : (b : Bool) → away s.held && same_key key s.key ≡ b → Holds owner (if b then cached_as came frame s else freed frame s) × ((k : PageKey) → under k (if b then cached_as came frame s else freed frame s) ≡ true → under k s ≡ true) × ((if b then cached_as came frame s else freed frame s).number ≡ s.number)
+    go : (b : Bool) → away s.held && same_key key s.key ≡ b → Holds owner (if b then cached_as came formed frame s else freed frame s) × ((k : PageKey) → under k (if b then cached_as came formed frame s else freed frame s) ≡ true → under k s ≡ true) × ((if b then cached_as came formed frame s else freed frame s).number ≡ s.number)
     go true e = (
-      record { here = λ q. here; away = λ q. absurd (true≢false q); true_page = λ q. digest s.held (both (away s.held) (same_key key s.key) e).0 ∙ ap (λ (k : PageKey). k.digest) (key_alone key s.key (both _ _ e).1); nobody = λ q. absurd (true≢false (sym q)) },
+      record { here = λ q. here; away = λ q. absurd (true≢false q); true_page = λ q. digest s.held (both (away s.held) (same_key key s.key) e).0 ∙ ap (λ (k : PageKey). k.digest) (key_alone key s.key (both _ _ e).1); nobody = λ q. absurd (true≢false (sym q)); session = tt; narrow = narrow; noted = λ q. refl },
       λ k h. ap (λ z. z && same_key k s.key) p.stand ∙ h,
       refl,
     )
-    go false e = (record { here = λ q. here; away = λ q. absurd (true≢false q); true_page = λ q. absurd (true≢false (sym q)); nobody = λ q. refl }, λ k h. absurd (true≢false (sym h)), refl)
+    go false e = (record { here = λ q. here; away = λ q. absurd (true≢false q); true_page = λ q. absurd (true≢false (sym q)); nobody = λ q. refl; session = tt; narrow = omega arith; noted = λ q. absurd (true≢false (sym q)) }, λ k h. absurd (true≢false (sym h)), refl)
 
 pub at_place : (owner : Ptr) (slots : List Slot) (came openings : ℕ) (n : ℕ) (s : Slot) → IsInOrder owner slots came openings → 0 < count_by (is_away n) slots → s ≡ get_or slots n s → Place slots n s × Holds owner s
 at_place owner slots came openings n s o h is =
@@ -170,34 +179,34 @@ at_place owner slots came openings n s o h is =
     (subst (λ z. Place slots n z) (sym is) p, subst (λ z. Holds owner z) (sym is) (o.pool.holds n s p.within))
 
 -- the order after a frame came back to its place
-pub return_order : (owner : Ptr) (slots : List Slot) (came later openings more n : ℕ) (away : Held → Bool) (key : PageKey) (frame : Framed) (old v : Slot) → IsInOrder owner slots came openings → 0 < count_by (is_away n) slots → old ≡ get_or slots n old
-    → v ≡ returned away key frame came old → frame.owner ≡ owner → frame.number ≡ n → ((h : Held) → away h ≡ true → sha256 frame.bytes ≡ key.digest) → more ≡ openings + cond (is_open v) 1 0 → IsInOrder owner (set slots n v) later more
-return_order owner slots came later openings more n away key frame old v o h is v_is own number digest opens =
+pub return_order : (owner : Ptr) (slots : List Slot) (came later openings more n : ℕ) (away : Held → Bool) (formed : Bool) (key : PageKey) (frame : Framed) (old v : Slot) → IsInOrder owner slots came openings → 0 < count_by (is_away n) slots → old ≡ get_or slots n old
+    → v ≡ returned away formed key frame came old → frame.owner ≡ owner → frame.number ≡ n → ((h : Held) → away h ≡ true → sha256 frame.bytes ≡ key.digest) → more ≡ openings + cond (is_open v) 1 0 → IsInOrder owner (set slots n v) later more
+return_order owner slots came later openings more n away formed key frame old v o h is v_is own number digest opens =
     let p = at_place owner slots came openings n old o h is in
-    let r = returned_holds owner away key frame came n slots old p.0 own number digest in
+    let r = returned_holds owner away formed key frame came n slots old p.0 own number p.1.narrow digest in
     put_order owner slots came later openings more n old v o p.0.within is (ap (λ (s : Slot). s.number) v_is ∙ r.2)
     (λ k u. r.1 k (subst (λ z. under k z ≡ true) v_is u)) (subst (λ z. Holds owner z) (sym v_is) r.0) (omega (arith, opens, ap {B = ℕ} (λ z. cond z 1 0) p.0.shut))
 
 -- a frame came back to its place
-pub returned_moves : (old new : Pooled) (openings n : ℕ) (away : Held → Bool) (key : PageKey) (frame : Framed) (s v : Slot) → IsInOrder old.owner old.slots old.came openings → 0 < count_by (is_away n) old.slots → s ≡ get_or old.slots n s
-    → v ≡ returned away key frame old.came s → frame.number ≡ n → new.slots ≡ set old.slots n v → new.owner ≡ old.owner → (s.number ≡ frame.number) × Moves old new s (returned away key frame old.came s)
-returned_moves old new openings n away key frame s v o h is v_is number slots owner =
+pub returned_moves : (old new : Pooled) (openings n : ℕ) (away : Held → Bool) (formed : Bool) (key : PageKey) (frame : Framed) (s v : Slot) → IsInOrder old.owner old.slots old.came openings → 0 < count_by (is_away n) old.slots → s ≡ get_or old.slots n s
+    → v ≡ returned away formed key frame old.came s → frame.number ≡ n → new.slots ≡ set old.slots n v → new.owner ≡ old.owner → (s.number ≡ frame.number) × Moves old new s (returned away formed key frame old.came s)
+returned_moves old new openings n away formed key frame s v o h is v_is number slots owner =
     let p = at_place old.owner old.slots old.came openings n s o h is in
     let r = split_at old.slots n s v p.0.within is in (
       p.0.number ∙ sym number,
-      record { rest = r.0; were = r.1; are = subst (λ (l : List Slot). IsPermutation l (returned away key frame old.came s ∷ r.0)) (sym slots) (subst (λ z. IsPermutation (set old.slots n v) (z ∷ r.0)) v_is r.2); owner = owner },
+      record { rest = r.0; were = r.1; are = subst (λ (l : List Slot). IsPermutation l (returned away formed key frame old.came s ∷ r.0)) (sym slots) (subst (λ z. IsPermutation (set old.slots n v) (z ∷ r.0)) v_is r.2); owner = owner },
     )
 
-pub arrives_to : (way : Arrival) (old new : Pooled) (openings n : ℕ) (key : PageKey) (frame : Framed) (s v : Slot) → IsInOrder old.owner old.slots old.came openings → 0 < count_by (is_away n) old.slots → s ≡ get_or old.slots n s → v ≡ returned (brings way) key frame old.came s
+pub arrives_to : (way : Arrival) (old new : Pooled) (openings n : ℕ) (key : PageKey) (frame : Framed) (s v : Slot) → IsInOrder old.owner old.slots old.came openings → 0 < count_by (is_away n) old.slots → s ≡ get_or old.slots n s → v ≡ returned (brings way) (notes way) key frame old.came s
     → frame.number ≡ n → new.slots ≡ set old.slots n v → new.owner ≡ old.owner → new.came ≡ came_after way old.came → Arrives way old key frame new
 arrives_to arrival.Landed old new openings n key frame s v o h is v_is number slots owner came =
-    let m = returned_moves old new openings n is_reading key frame s v o h is v_is number slots owner in
+    let m = returned_moves old new openings n is_reading false key frame s v o h is v_is number slots owner in
     record { slot = s; number = m.0; change = m.1; came = came }
-arrives_to arrival.Back old new openings n key frame s v o h is v_is number slots owner came =
-    let m = returned_moves old new openings n is_in_hand key frame s v o h is v_is number slots owner in
+arrives_to (arrival.Back formed) old new openings n key frame s v o h is v_is number slots owner came =
+    let m = returned_moves old new openings n is_in_hand formed key frame s v o h is v_is number slots owner in
     record { slot = s; number = m.0; change = m.1; came = came }
 arrives_to arrival.Lost old new openings n key frame s v o h is v_is number slots owner came =
-    let m = returned_moves old new openings n (λ x. false) key frame s v o h is v_is number slots owner in
+    let m = returned_moves old new openings n (λ x. false) false key frame s v o h is v_is number slots owner in
     record { slot = s; number = m.0; change = m.1; came = came }
 
 -- what asks find
@@ -323,20 +332,21 @@ Answered owner slots came less key who result later =
     × (answer_of result ≡ seen_at (record { owner = owner; slots = slots; came = came }) key)
 
 -- an ask for a page that stands
-takes_asks : (owner : Ptr) (slots : List Slot) (came openings n : ℕ) (key : PageKey) (who : ℕ) (old v : Slot) (result : Ask) → IsInOrder owner slots came openings → n < length slots → old ≡ get_or slots n old → under key old ≡ true → Takes old who result v → Answered owner slots came (openings - cond (is_open old) 1 0) key who result (set slots n v)
-takes_asks owner slots came openings n key who old v (ask.Hit frame) o within is mine t =
+takes_asks : (owner : Ptr) (slots : List Slot) (came openings n : ℕ) (key : PageKey) (who : ℕ) (old v : Slot) (result : Ask) → who < 64 → IsInOrder owner slots came openings → n < length slots → old ≡ get_or slots n old → under key old ≡ true → Takes old who result v → Answered owner slots came (openings - cond (is_open old) 1 0) key who result (set slots n v)
+takes_asks owner slots came openings n key who old v (ask.Hit frame formed) session o within is mine t =
     let u = both (stands old.held) (same_key key old.key) mine in
     let r = split_at slots n old v within is in
     let shut : is_open v ≡ false = ap is_open t.2 in
     let h : Holds owner old = subst (λ z. Holds owner z) (sym is) (o.pool.holds n old within) in (
       put_order owner slots came came openings _ n old v o within is (ap (λ (s : Slot). s.number) t.2) (λ k e. ap (λ z. z && same_key k old.key) u.0 ∙ subst (λ z. under k z ≡ true) t.2 e)
-          (subst (λ z. Holds owner z) (sym t.2) (record { here = λ q. absurd (true≢false (sym q)); away = λ q. refl; true_page = λ q. absurd (true≢false (sym q)); nobody = λ q. absurd (true≢false (sym q)) }))
+          (subst (λ z. Holds owner z) (sym t.2) (record { here = λ q. absurd (true≢false (sym q)); away = λ q. refl; true_page = λ q. absurd (true≢false (sym q)); nobody = λ q. absurd (true≢false (sym q)); session = session; narrow = less_narrow who old.waits h.narrow; noted = λ q. refl }))
           (omega (arith, o.counted, weighed (λ s. cond (is_open s) 1 0) slots old r.0 r.1, ap {B = ℕ} (λ z. cond z 1 0) shut)),
       record {
         slot = old;
         is = t.0;
         named = sym (key_alone key old.key u.1);
         frame_is = t.1;
+        noted = t.3;
         digest = subst (λ r. IfSome r (λ g. sha256 g.bytes ≡ old.key.digest)) t.1 (h.true_page (ap is_cached t.0)) ∙ ap (λ (k : PageKey). k.digest) (sym (key_alone key old.key u.1));
         away = given_away owner slots came n old v frame within h (ap (λ x. is_free x || is_cached x) t.0) t.1 (ap (λ (z : Slot). z.number) t.2) (ap (λ (z : Slot). is_reading z.held || is_in_hand z.held) t.2);
         change = record { rest = r.0; were = r.1; are = subst (λ z. IsPermutation (set slots n v) (z ∷ r.0)) t.2 r.2; owner = refl };
@@ -344,20 +354,20 @@ takes_asks owner slots came openings n key who old v (ask.Hit frame) o within is
       },
       sym (seen_hit (record { owner = owner; slots = slots; came = came }) n old key within is mine t.0),
     )
-takes_asks owner slots came openings n key who old v (ask.Start frame) o within is mine t = absurd t
-takes_asks owner slots came openings n key who old v (ask.Reading other) o within is mine t =
+takes_asks owner slots came openings n key who old v (ask.Start frame) session o within is mine t = absurd t
+takes_asks owner slots came openings n key who old v (ask.Reading other) session o within is mine t =
     let u = both (stands old.held) (same_key key old.key) mine in
     let r = split_at slots n old v within is in
     let h : Holds owner old = subst (λ z. Holds owner z) (sym is) (o.pool.holds n old within) in
     let shut_old : is_open old ≡ false = ap (λ x. is_free x || (is_cached x && nat_eq old.waits 0)) t.0 in
     let shut : is_open v ≡ false = ap is_open t.1 ∙ ap (λ x. is_free x || (is_cached x && nat_eq (with_wait who old.waits) 0)) t.0 in (
       put_order owner slots came came openings _ n old v o within is (ap (λ (s : Slot). s.number) t.1) (λ k e. subst (λ z. under k z ≡ true) t.1 e)
-          (subst (λ z. Holds owner z) (sym t.1) (record { here = h.here; away = h.away; true_page = h.true_page; nobody = λ q. absurd (true≢false (sym q ∙ ap is_free t.0)) }))
+          (subst (λ z. Holds owner z) (sym t.1) (record { here = h.here; away = h.away; true_page = h.true_page; nobody = λ q. absurd (true≢false (sym q ∙ ap is_free t.0)); session = h.session; narrow = more_narrow who old.waits h.narrow; noted = h.noted }))
           (omega (arith, o.counted, ap {B = ℕ} (λ z. cond z 1 0) shut, ap {B = ℕ} (λ z. cond z 1 0) shut_old)),
       record { slot = old; is = t.0; named = sym (key_alone key old.key u.1); change = record { rest = r.0; were = r.1; are = subst (λ z. IsPermutation (set slots n v) (z ∷ r.0)) t.1 r.2; owner = refl }; came = refl },
       sym (seen_reading (record { owner = owner; slots = slots; came = came }) n old key other (o.pool.keys key) within is mine t.0),
     )
-takes_asks owner slots came openings n key who old v (ask.Busy other) o within is mine t =
+takes_asks owner slots came openings n key who old v (ask.Busy other) session o within is mine t =
     let u = both (stands old.held) (same_key key old.key) mine in
     let r = split_at slots n old old within is in
     let shut_old : is_open old ≡ false = ap (λ x. is_free x || (is_cached x && nat_eq old.waits 0)) t.0 in
@@ -366,28 +376,28 @@ takes_asks owner slots came openings n key who old v (ask.Busy other) o within i
       record { same = ap (λ l. record { owner = owner; slots = l; came = came }) same; slot = old; rest = r.0; among = r.1; is = t.0; named = sym (key_alone key old.key u.1) },
       sym (seen_busy (record { owner = owner; slots = slots; came = came }) n old key other (o.pool.keys key) within is mine t.0),
     )
-takes_asks owner slots came openings n key who old v (ask.Full frames) o within is mine t = absurd t
+takes_asks owner slots came openings n key who old v (ask.Full frames) session o within is mine t = absurd t
 
 -- the place that was found of those that were lent
 abbrev pub FoundUnder : PageKey → List Slot → ℕ → Type 0
 FoundUnder key slots n = (n < length slots) × ((d : Slot) → under key (get_or slots n d) ≡ true)
 
-pub take_found : (owner : Ptr) (slots lent : List Slot) (came openings n : ℕ) (key : PageKey) (who : ℕ) (old v : Slot) (result : Ask) → IsInOrder owner slots came openings → lent ≡ slots → FoundUnder key lent n → old ≡ get_or slots n old → Takes old who result v
+pub take_found : (owner : Ptr) (slots lent : List Slot) (came openings n : ℕ) (key : PageKey) (who : ℕ) (old v : Slot) (result : Ask) → who < 64 → IsInOrder owner slots came openings → lent ≡ slots → FoundUnder key lent n → old ≡ get_or slots n old → Takes old who result v
     → Answered owner slots came (openings - cond (is_open old) 1 0) key who result (set slots n v) × (n < length slots) × (under key old ≡ true)
-take_found owner slots lent came openings n key who old v result o same found is t =
+take_found owner slots lent came openings n key who old v result session o same found is t =
     let there : FoundUnder key slots n = subst (λ (l : List Slot). FoundUnder key l n) same found in
     let mine : under key old ≡ true = subst (λ z. under key z ≡ true) (sym is) (there.1 old) in
-    (takes_asks owner slots came openings n key who old v result o there.0 is mine t, there.0, mine)
+    (takes_asks owner slots came openings n key who old v result session o there.0 is mine t, there.0, mine)
 
 -- an ask that starts a read
-start_asks : (owner : Ptr) (slots : List Slot) (came openings n : ℕ) (key : PageKey) (who : ℕ) (old v : Slot) (frame : Framed) → IsInOrder owner slots came openings → n < length slots → old ≡ get_or slots n old → count_by (under key) slots ≡ 0
+start_asks : (owner : Ptr) (slots : List Slot) (came openings n : ℕ) (key : PageKey) (who : ℕ) (old v : Slot) (frame : Framed) → who < 64 → IsInOrder owner slots came openings → n < length slots → old ≡ get_or slots n old → count_by (under key) slots ≡ 0
     → is_open old ≡ true → All (λ s. is_open s ≡ true → old.came ≤ s.came) slots → old.frame ≡ Some frame → v ≡ started_by who key old
     → Answered owner slots came (openings - 1) key who (ask.Start frame) (set slots n v)
-start_asks owner slots came openings n key who old v frame o within is none opens least frame_is v_is =
+start_asks owner slots came openings n key who old v frame session o within is none opens least frame_is v_is =
     let r = split_at slots n old v within is in
     let shut : is_open v ≡ false = ap is_open v_is in (
       put_any owner slots came came openings _ n old v o within is (ap (λ (s : Slot). s.number) v_is) (λ k. keys k (same_key k key) refl)
-          (subst (λ z. Holds owner z) (sym v_is) (record { here = λ q. absurd (true≢false (sym q)); away = λ q. refl; true_page = λ q. absurd (true≢false (sym q)); nobody = λ q. absurd (true≢false (sym q)) }))
+          (subst (λ z. Holds owner z) (sym v_is) (record { here = λ q. absurd (true≢false (sym q)); away = λ q. refl; true_page = λ q. absurd (true≢false (sym q)); nobody = λ q. absurd (true≢false (sym q)); session = session; narrow = more_narrow who 0 (omega arith); noted = λ q. absurd (true≢false (sym q)) }))
           (omega (arith, o.counted, some_here slots n old is_open within is opens, ap {B = ℕ} (λ z. cond z 1 0) opens, ap {B = ℕ} (λ z. cond z 1 0) shut)),
       record {
         slot = old;
@@ -420,11 +430,11 @@ look_found p lent n s key pool same found is =
 abbrev pub FoundOpen : List Slot → ℕ → Type 0
 FoundOpen slots n = (n < length slots) × ((d : Slot) → (is_open (get_or slots n d) ≡ true) × All (λ s. is_open s ≡ true → (get_or slots n d).came ≤ s.came) slots)
 
-pub start_found : (owner : Ptr) (slots lent again : List Slot) (came openings n : ℕ) (key : PageKey) (who : ℕ) (old v : Slot) (frame : Framed) → IsInOrder owner slots came openings → lent ≡ slots → count_by (under key) lent ≡ 0 → again ≡ slots → FoundOpen again n → old ≡ get_or slots n old → old.frame ≡ Some frame → v ≡ started_by who key old
+pub start_found : (owner : Ptr) (slots lent again : List Slot) (came openings n : ℕ) (key : PageKey) (who : ℕ) (old v : Slot) (frame : Framed) → who < 64 → IsInOrder owner slots came openings → lent ≡ slots → count_by (under key) lent ≡ 0 → again ≡ slots → FoundOpen again n → old ≡ get_or slots n old → old.frame ≡ Some frame → v ≡ started_by who key old
     → Answered owner slots came (openings - 1) key who (ask.Start frame) (set slots n v)
-start_found owner slots lent again came openings n key who old v frame o same none twice found is frame_is v_is =
+start_found owner slots lent again came openings n key who old v frame session o same none twice found is frame_is v_is =
     let there : FoundOpen slots n = subst (λ (l : List Slot). FoundOpen l n) twice found in
-    start_asks owner slots came openings n key who old v frame o there.0 is (subst (λ (l : List Slot). count_by (under key) l ≡ 0) same none)
+    start_asks owner slots came openings n key who old v frame session o there.0 is (subst (λ (l : List Slot). count_by (under key) l ≡ 0) same none)
     (subst (λ z. is_open z ≡ true) (sym is) (there.1 old).0) (subst (λ (z : Slot). All (λ s. is_open s ≡ true → z.came ≤ s.came) slots) (sym is) (there.1 old).1) frame_is v_is
 
 -- what is read at a place is one thing

@@ -1,5 +1,5 @@
 -- What a pool is made of, and what it ends as. This project's own.
-use Rattle.std.specs.Prelude.{◌≡◌, ℕ, ◌<◌, ◌^◌, List, [], ◌∷◌, map, length, replicate, None, option_to_list, All, IfSome, IsPermutation}
+use Rattle.std.specs.Prelude.{◌≡◌, ℕ, ◌<◌, ◌^◌, false, List, [], ◌∷◌, map, length, replicate, None, option_to_list, All, IfSome, IsPermutation}
 use Rattle.std.specs.List.{range_with_len, flat_map}
 use Rattle.hv_frames.specs.Frames.{Framed, Owned, AreAll}
 use Rattle.hv_pool.specs.declared.slot.Held.TheVariants.{Free}
@@ -20,17 +20,18 @@ owner_of (f ∷ fs) = f.owner
 
 -- a place without a frame
 abbrev pub empty_slot : ℕ → Slot
-empty_slot n = record { number = n; key = record { chunk = 0; page = 0; digest = replicate 32 0 }; held = Free; came = 0; waits = 0; frame = None }
+empty_slot n = record { number = n; key = record { chunk = 0; page = 0; digest = replicate 32 0 }; held = Free; came = 0; waits = 0; formed = false; frame = None }
 
 -- the frames that are not away
 abbrev pub here : List Slot → List Framed
 here slots = flat_map (λ s. option_to_list s.frame) slots
 
--- a place that has no page, where nobody waits, with the frame of its number if it has one
+-- a place that has no page, where nobody waits and nothing is noted, with the frame of its number if it has one
 pub record IsFresh (s : Slot) : Type 0 where
   pub held : s.held ≡ Free
   pub came : s.came ≡ 0
   pub waits : s.waits ≡ 0
+  pub formed : s.formed ≡ false
   pub frame : IfSome s.frame (λ f. f.number ≡ s.number)
 
 -- each frame stands in the place of its number, and none has a page

@@ -1,5 +1,5 @@
 -- Where the frames of a pool are. This project's own.
-use Rattle.std.specs.Prelude.{◌≡◌, ℕ, ◌*◌, ◌^◌, ◌%◌, ◌<◌, ◌≤◌, Bool, true, false, ◌&&◌, ◌||◌, not, nat_eq, nat_lt, if◌then◌else◌, List, length, Some, None, All, bit_and, bit_or, IfSome}
+use Rattle.std.specs.Prelude.{◌≡◌, ⊤, ℕ, ◌*◌, ◌^◌, ◌%◌, ◌<◌, ◌≤◌, Bool, true, false, ◌&&◌, ◌||◌, not, nat_eq, nat_lt, if◌then◌else◌, List, length, Some, None, All, bit_and, bit_or, IfSome}
 use Rattle.std.specs.Int.{w64}
 use Rattle.std.specs.List.{count_by}
 use Rattle.std.specs.Int.{bit_at, bit_not}
@@ -103,12 +103,22 @@ seen_at p key =
     else if nat_lt 0 (count_by (reading_at key) p.slots) then seen.Reading
     else if nat_lt 0 (count_by is_open p.slots) then seen.Start else seen.Full
 
--- a free frame, or one with a page, is here, and the page has the digest of its key
+-- who has a frame that is away is a session, numbered below 64
+abbrev pub IsWithSession : Held → Type 0
+IsWithSession Free = ⊤
+IsWithSession Cached = ⊤
+IsWithSession (Reading who) = who < 64
+IsWithSession (InHand who) = who < 64
+
+-- a free frame, or one with a page, is here, and the page has the digest of its key; the sessions are numbered below 64, and those that wait are a bit each; only a page is noted to have its form
 pub record Holds (owner : Ptr) (s : Slot) : Type 0 where
   pub here : (is_free s.held || is_cached s.held) ≡ true → (f : Framed) × (s.frame ≡ Some f) × (f.owner ≡ owner) × (f.number ≡ s.number)
   pub away : (is_free s.held || is_cached s.held) ≡ false → s.frame ≡ None
   pub true_page : is_cached s.held ≡ true → IfSome s.frame (λ f. sha256 f.bytes ≡ s.key.digest)
   pub nobody : is_free s.held ≡ true → s.waits ≡ 0
+  pub session : IsWithSession s.held
+  pub narrow : s.waits < 2 ^ 64
+  pub noted : s.formed ≡ true → (is_cached s.held || is_in_hand s.held) ≡ true
 
 -- each frame number below their count stands once, and no two frames stand under one key
 pub record IsPool (p : Pooled) : Type 0 where
@@ -120,6 +130,10 @@ pub record IsPool (p : Pooled) : Type 0 where
 -- a page that may not give up its frame, since a session waits for it
 abbrev pub is_owed : Slot → Bool
 is_owed s = is_cached s.held && not (nat_eq s.waits 0)
+
+-- the page of the key is such a page
+abbrev pub owed_at : PageKey → Slot → Bool
+owed_at key s = is_owed s && same_key key s.key
 
 -- its frame is away: a page is read into it, or it is in a hand
 abbrev pub is_gone : Slot → Bool

@@ -1,10 +1,10 @@
 // The laws of pools, which callers cite by this contract.
-ghost use Rattle.std.specs.Prelude.{◌≡◌, ℕ, ◌+◌, ◌<◌, ◌≤◌, Bool, true, false, ◌&&◌, nat_eq, length};
+ghost use Rattle.std.specs.Prelude.{◌≡◌, ℕ, ◌+◌, ◌<◌, ◌≤◌, Bool, true, false, ◌&&◌, nat_eq, if◌then◌else◌, length};
 ghost use Rattle.std.specs.List.{sum_by, count_by};
 ghost use Rattle.hv_frames.specs.Frames.{Framed};
 ghost use Rattle.hv_pool.specs.Key.{same_key};
-ghost use Rattle.hv_pool.specs.Slots.{Pooled, IsPool, seen_at, under, is_gone, is_owed, is_held_by, waits_at};
-ghost use Rattle.hv_pool.specs.Moves.{Moves, Asks, Arrives, brings, Forgets, joined_by, forgotten};
+ghost use Rattle.hv_pool.specs.Slots.{Pooled, IsPool, IsAway, seen_at, under, cached_at, is_gone, is_owed, owed_at, is_held_by, waits_at, waits_bit};
+ghost use Rattle.hv_pool.specs.Moves.{Moves, Asks, is_hit, Arrives, brings, brings_owed, Forgets, joined_by, forgotten};
 ghost use Rattle.hv_pool.specs.declared.slot.Arrival.{Arrival};
 ghost use Rattle.hv_pool.specs.declared.seen.Ask.{Ask};
 ghost use Rattle.hv_pool.specs.declared.key.PageKey.{PageKey};
@@ -24,6 +24,18 @@ pub fn pool_laws()
     ensures forgets { (old new : Pooled) (who : ℕ) → Forgets old who new → (test : Slot → Bool) → ((s : Slot) → test (forgotten who s) ≡ test s) → count_by test new.slots ≡ count_by test old.slots }
     ensures waits_end { (old new : Pooled) (who : ℕ) → who < 64 → Forgets old who new → (key : PageKey) → count_by (waits_at who key) new.slots ≡ 0 }
     ensures waits_stay { (old new : Pooled) (who other : ℕ) → who < 64 → other < 64 → ¬ (other ≡ who) → Forgets old who new → (key : PageKey) → count_by (waits_at other key) new.slots ≡ count_by (waits_at other key) old.slots }
+{}
+
+/// Which pages are owed. One is where it is here and a session waits for it, which is one of the 64. After an ask the same pages are owed, but for the page
+/// that the ask gets. Where a frame comes back, its page is owed too, if it was away for that page and sessions wait for it; and no other ceases to be.
+/// Where a session's waits end, those pages are owed yet for which another waits.
+/// This project's own. It does nothing: its contract is these laws.
+pub fn owed_laws()
+    ensures owed_to { (p : Pooled) (key : PageKey) → IsPool p → 0 < count_by (owed_at key) p.slots → (who : ℕ) × (who < 64) × (0 < count_by (λ s. cached_at key s && waits_bit who s.waits) p.slots) }
+    ensures waited { (p : Pooled) (key : PageKey) (who : ℕ) → 0 < count_by (λ s. cached_at key s && waits_bit who s.waits) p.slots → 0 < count_by (owed_at key) p.slots }
+    ensures asks { (old new : Pooled) (key : PageKey) (who : ℕ) (answer : Ask) → IsPool old → Asks old key who answer new → (k : PageKey) → count_by (owed_at k) new.slots ≡ (if is_hit answer && same_key k key then 0 else count_by (owed_at k) old.slots) }
+    ensures arrives { (way : Arrival) (old new : Pooled) (key : PageKey) (frame : Framed) → IsPool old → IsAway old frame → Arrives way old key frame new → (k : PageKey) → count_by (owed_at k) new.slots ≡ count_by (owed_at k) old.slots + count_by (brings_owed way key frame k) old.slots }
+    ensures forgets { (old new : Pooled) (who : ℕ) → Forgets old who new → (k : PageKey) → count_by (owed_at k) new.slots ≡ count_by (λ s. owed_at k (forgotten who s)) old.slots }
 {}
 
 /// What the calls of one session leave of another's. Its waits stay at an ask, for each page. So do the frames that are read for it or that it has in

@@ -11,7 +11,7 @@ mod seen;
 mod slot;
 
 pub use key::{PageKey, same};
-pub use law::{pool_laws, session_laws};
+pub use law::{owed_laws, pool_laws, session_laws};
 pub use pool::{Pool, Unpooled};
 pub use seen::{Ask, Seen};
 pub use slot::{Held, Slot};

@@ -7,7 +7,7 @@ ghost use Rattle.hv_pool.specs.Shape.{HasRoom};
 ghost use Rattle.hv_pool.specs.Order.{IsOrdered};
 ghost use Rattle.sha2.specs.Sha256.{sha256};
 ghost use Rattle.hv_pool.specs.Slots.{seen_at, under, is_open, is_reading, is_in_hand, is_cached, is_gone, stands, IsPool, IsAway};
-ghost use Rattle.hv_pool.specs.Moves.{Asks, answer_of, ComesBack, IsLost, Forgets, Takes, Arrives, brings, returned, started_by, cached_as, freed, moved, forgotten};
+ghost use Rattle.hv_pool.specs.Moves.{Asks, answer_of, ComesBack, IsLost, Forgets, Takes, Arrives, brings, notes, returned, started_by, cached_as, freed, moved, forgotten};
 ghost use Rattle.hv_pool.specs.declared.slot.Held.{Held};
 
 use crate::index::{empty_chains, find_under, reindex};
@@ -77,7 +77,10 @@ fn take_standing(slot: &mut Slot, who: u32) -> Ask
             };
             slot.held = Held::InHand { who };
             forget_at(slot, who);
-            Ask::Hit(frame)
+            Ask::Hit {
+                frame,
+                formed: slot.formed,
+            }
         }
         Held::Reading { who: other } => {
             slot.waits = wait_more(slot.waits, who);
@@ -101,27 +104,29 @@ fn start_in(slot: &mut Slot, key: &PageKey, who: u32) -> Frame
     slot.held = Held::Reading { who };
     slot.came = 0;
     slot.waits = wait_more(0, who);
+    slot.formed = false;
     frame
 }
 
 // The frame of a place comes back.
 fn put_back(slot: &mut Slot, way: Arrival, key: &PageKey, frame: Frame, came: u64)
     requires { slot.old.frame ≡ None }
-    ensures { slot.new ≡ returned (brings way) key.now frame came slot.old }
+    ensures { slot.new ≡ returned (brings way) (notes way) key.now frame came slot.old }
 {
     if way.brings(slot.held) && same(key, &slot.key) {
-        return cache_at(slot, frame, came);
+        return cache_at(slot, frame, came, way.notes());
     }
     free_at(slot, frame);
 }
 
-fn cache_at(slot: &mut Slot, frame: Frame, came: u64)
+fn cache_at(slot: &mut Slot, frame: Frame, came: u64, formed: bool)
     requires { slot.old.frame ≡ None }
-    ensures { slot.new ≡ cached_as came frame slot.old }
+    ensures { slot.new ≡ cached_as came formed frame slot.old }
 {
     fill(slot, frame);
     slot.held = Held::Cached;
     slot.came = came;
+    slot.formed = formed;
 }
 
 fn free_at(slot: &mut Slot, frame: Frame)
@@ -132,11 +137,12 @@ fn free_at(slot: &mut Slot, frame: Frame)
     slot.held = Held::Free;
     slot.came = 0;
     slot.waits = 0;
+    slot.formed = false;
 }
 
 fn fill(slot: &mut Slot, frame: Frame)
     requires { slot.old.frame ≡ None }
-    ensures { slot.new ≡ moved slot.old slot.old.key slot.old.held slot.old.came slot.old.waits (Some frame) }
+    ensures { slot.new ≡ moved slot.old slot.old.key slot.old.held slot.old.came slot.old.waits slot.old.formed (Some frame) }
 {
     let none = slot.frame.replace(frame);
     let None = none else {
@@ -226,24 +232,24 @@ impl Pool {
         }
     }
 
-    /// The page of the key landed in the frame.
+    /// The page of the key landed in the frame. Nothing is noted of its form yet.
     pub fn landed(&mut self, key: &PageKey, frame: Frame)
         requires away { IsAway self.old frame }
         requires digest { sha256 frame.bytes ≡ key.now.digest }
-        ensures change { ComesBack is_reading self.old key.now frame self.new }
+        ensures change { ComesBack is_reading false self.old key.now frame self.new }
         ensures pool { IsPool self.old }
     {
         self.arrive(Arrival::Landed, key, frame);
     }
 
-    /// The frame of a page comes back from a hand.
-    pub fn back(&mut self, key: &PageKey, frame: Frame)
+    /// The frame of a page comes back from a hand. `formed` says that the page was found to have its form, by now or before; a Hit tells it again.
+    pub fn back(&mut self, key: &PageKey, frame: Frame, formed: bool)
         requires away { IsAway self.old frame }
         requires digest { sha256 frame.bytes ≡ key.now.digest }
-        ensures change { ComesBack is_in_hand self.old key.now frame self.new }
+        ensures change { ComesBack is_in_hand formed self.old key.now frame self.new }
         ensures pool { IsPool self.old }
     {
-        self.arrive(Arrival::Back, key, frame);
+        self.arrive(Arrival::Back { formed }, key, frame);
     }
 
     /// The frame comes back without a page; whoever waits for its key waits no more.
@@ -331,6 +337,7 @@ fn empty_slot(number: u32) -> Slot
         held: Held::Free,
         came: 0,
         waits: 0,
+        formed: false,
         frame: None,
     }
 }
@@ -403,6 +410,7 @@ fn frame_of(slot: Slot) -> Frame
         held: _,
         came: _,
         waits: _,
+        formed: _,
         frame,
     } = slot;
     match frame {

@@ -13,8 +13,8 @@ pub enum Seen {
 
 /// What an ask for a page gives.
 pub enum Ask {
-    /// The page is here, and its frame is now in the asker's hand.
-    Hit(Frame),
+    /// The page is here, and its frame is now in the asker's hand. `formed` is what was noted when it came back: that it was found to have its form.
+    Hit { frame: Frame, formed: bool },
     /// The page is to be read into this frame.
     Start(Frame),
     /// The page is being read for that session.

@@ -1,7 +1,7 @@
 // A frame's place in a pool.
 ghost use Rattle.std.specs.Prelude.{◌≡◌, ◌<◌, ◌≤◌};
 ghost use Rattle.hv_pool.specs.Slots.{under, is_open, waits_bit, with_wait, without_wait};
-ghost use Rattle.hv_pool.specs.Moves.{brings, came_after};
+ghost use Rattle.hv_pool.specs.Moves.{brings, notes, came_after};
 
 use crate::PageKey;
 use crate::key::same;
@@ -25,8 +25,8 @@ pub enum Held {
 pub enum Arrival {
     /// With the page that was to be read into it.
     Landed,
-    /// With the page that a session had in hand.
-    Back,
+    /// With the page that a session had in hand, found to have its form or not.
+    Back { formed: bool },
     /// Without a page.
     Lost,
 }
@@ -40,6 +40,8 @@ pub struct Slot {
     pub came: u64,
     /// The sessions that wait for its key, a bit each.
     pub waits: u64,
+    /// Whether its page was found to have its form. What this means is kept by those who call.
+    pub formed: bool,
     pub frame: Option<Frame>,
 }
 
@@ -73,8 +75,18 @@ impl Arrival {
     {
         match self {
             Arrival::Landed => matches!(held, Held::Reading { .. }),
-            Arrival::Back => matches!(held, Held::InHand { .. }),
+            Arrival::Back { .. } => matches!(held, Held::InHand { .. }),
             Arrival::Lost => false,
+        }
+    }
+
+    /// Whether a page that comes back so was found to have its form.
+    pub fn notes(self) -> bool
+        ensures { result ≡ notes self }
+    {
+        match self {
+            Arrival::Landed | Arrival::Lost => false,
+            Arrival::Back { formed } => formed,
         }
     }
 
@@ -83,7 +95,7 @@ impl Arrival {
         ensures { result ≡ came_after self came }
     {
         match self {
-            Arrival::Landed | Arrival::Back => came.saturating_add(1),
+            Arrival::Landed | Arrival::Back { .. } => came.saturating_add(1),
             Arrival::Lost => came,
         }
     }

@@ -47,7 +47,7 @@ fn use_page(fixture: &mut Fixture, page: u32, session: u32) -> u64
         fixture.give(Way::Landed, page);
     }
     let answer = fixture.ask(page, session);
-    fixture.give(Way::Back, page);
+    fixture.give(Way::Back { formed: true }, page);
     u64::from(answer.number)
 }
 

@@ -160,8 +160,8 @@ frame_number p s rest frame pool were home is =
     let f = h.here (here_of s.held home) in
     sym (subst (λ r. IfSome r (λ g. g.number ≡ s.number)) (sym f.1 ∙ is) f.3)
 
-pub hit_out : (owned : Owned) (digest : List ℕ) (old new : Pooled) (key : PageKey) (who : ℕ) (frame : Framed) (frames : List Framed) → AreOut owned digest old frames → IsPool old → Hits old key who frame new → AreOut owned digest new (frames ++ frame ∷ [])
-hit_out owned digest old new key who frame frames out pool hit =
+pub hit_out : (owned : Owned) (digest : List ℕ) (old new : Pooled) (key : PageKey) (who : ℕ) (frame : Framed) (formed : Bool) (frames : List Framed) → AreOut owned digest old frames → IsPool old → Hits old key who frame formed new → AreOut owned digest new (frames ++ frame ∷ [])
+hit_out owned digest old new key who frame formed frames out pool hit =
     let home : is_gone hit.slot ≡ false = ap (λ h. is_reading h || is_in_hand h) hit.is in
     goes_out owned digest old new hit.slot _ frames frame out hit.change home refl (frame_number old hit.slot hit.change.rest frame pool hit.change.were home hit.frame_is) hit.away.owner hit.frame_is refl
 
@@ -193,12 +193,12 @@ join_out owned digest old new key who other frames out join =
       away = out.away;
     }
 
-pub back_out : (away : Held → Bool) (owned : Owned) (digest : List ℕ) (old new : Pooled) (key : PageKey) (frames : List Framed) (frame : Framed) → AreOut owned digest old (frames ++ frame ∷ []) → IsPool old → ComesBack away old key frame new → AreOut owned digest new frames
-back_out away owned digest old new key frames frame out pool back =
+pub back_out : (away : Held → Bool) (formed : Bool) (owned : Owned) (digest : List ℕ) (old new : Pooled) (key : PageKey) (frames : List Framed) (frame : Framed) → AreOut owned digest old (frames ++ frame ∷ []) → IsPool old → ComesBack away formed old key frame new → AreOut owned digest new frames
+back_out away formed owned digest old new key frames frame out pool back =
     let h = home (away back.slot.held && same_key key back.slot.key) in
     comes_back owned digest old new back.slot _ frames frame out pool (last_away owned digest old frames frame out) back.change back.number h.0 h.1
   where
-    home : (b : Bool) → (is_gone (if b then cached_as old.came frame back.slot else freed frame back.slot) ≡ false) × ((if b then cached_as old.came frame back.slot else freed frame back.slot).frame ≡ Some frame)
+    home : (b : Bool) → (is_gone (if b then cached_as old.came formed frame back.slot else freed frame back.slot) ≡ false) × ((if b then cached_as old.came formed frame back.slot else freed frame back.slot).frame ≡ Some frame)
     home true = (refl, refl)
     home false = (refl, refl)
 

@@ -1,7 +1,7 @@
 // Random calls on a pool and on a plain one, held against each other after each.
 ghost use Rattle.std.specs.Prelude.{◌<◌, ◌≤◌};
 
-use crate::fixture::{Fixture, Way};
+use crate::fixture::{Answer, Fixture, Way};
 use crate::plain::Plain;
 use hv_pool::Seen;
 use rand_core::SeedableRng;
@@ -34,10 +34,11 @@ enum Call {
     },
 }
 
-// Which answers were met, and which ways back, with a frame's own page and with another.
+// Which answers were met, and hits with either note, and which ways back, with a frame's own page and with another.
 #[derive(Drop, Clone, Copy)]
 struct Met {
     answers: [bool; 5],
+    notes: [bool; 2],
     own: [bool; 3],
     other: [bool; 3],
 }
@@ -46,14 +47,18 @@ impl Met {
     fn none() -> Met {
         Met {
             answers: [false; 5],
+            notes: [false; 2],
             own: [false; 3],
             other: [false; 3],
         }
     }
 
-    fn answer(&mut self, seen: Seen) {
-        match seen {
-            Seen::Hit => self.answers[0] = true,
+    fn answer(&mut self, answer: &Answer) {
+        match answer.seen {
+            Seen::Hit => {
+                self.answers[0] = true;
+                self.notes[usize::from(answer.formed)] = true;
+            }
             Seen::Start => self.answers[1] = true,
             Seen::Reading => self.answers[2] = true,
             Seen::Busy => self.answers[3] = true,
@@ -65,13 +70,16 @@ impl Met {
         let met = if own { &mut self.own } else { &mut self.other };
         match way {
             Way::Landed => met[0] = true,
-            Way::Back => met[1] = true,
+            Way::Back { .. } => met[1] = true,
             Way::Lost => met[2] = true,
         }
     }
 
     fn is_all(&self) -> bool {
-        self.answers == [true; 5] && self.own == [true; 3] && self.other == [true; 3]
+        self.answers == [true; 5]
+            && self.notes == [true; 2]
+            && self.own == [true; 3]
+            && self.other == [true; 3]
     }
 }
 
@@ -86,18 +94,18 @@ fn next_call(random: &mut Pcg32, sessions: u32) -> Call
         0 => Call::Forget { session },
         1..=5 => Call::Give {
             which: bits / 16_777_216,
-            way: next_way(bits / 2_048 % 8),
+            way: next_way(bits / 2_048 % 16),
             page: (bits / 1_048_576 % 4 == 0).then_some(page),
         },
         _ => Call::Ask { page, session },
     }
 }
 
-// A frame lands in four of eight, comes back from a hand in three, and is lost in one.
+// A frame lands in four of eight, comes back from a hand in three, in half of them with its form found, and is lost in one.
 fn next_way(bits: u32) -> Way {
-    match bits {
+    match bits % 8 {
         0..=3 => Way::Landed,
-        4..=6 => Way::Back,
+        4..=6 => Way::Back { formed: bits >= 8 },
         _ => Way::Lost,
     }
 }
@@ -119,7 +127,7 @@ fn ask_both(fixture: &mut Fixture, plain: &mut Plain, page: u8, session: u32, me
     requires { session < 64 }
 {
     let answer = fixture.ask(u32::from(page), session);
-    met.answer(answer.seen);
+    met.answer(&answer);
     plain.ask(page, session, &answer)
 }
 

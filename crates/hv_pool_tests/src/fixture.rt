@@ -13,15 +13,18 @@ use std::marker::Model;
 #[derive(Clone, Copy, Debug, PartialEq, Eq)]
 pub enum Way {
     Landed,
-    Back,
+    /// From a hand, with its page found to have its form or not.
+    Back { formed: bool },
     Lost,
 }
 
 /// What is answered to an ask, with the number of the frame that is given, or else of the session that has it, or else of the frames that there are.
+/// `formed` is what a Hit tells of the page's form, and else false.
 #[derive(Clone, Copy, Debug, PartialEq, Eq)]
 pub struct Answer {
     pub seen: Seen,
     pub number: u32,
+    pub formed: bool,
 }
 
 /// A pool of some frames, with those of them that are away.
@@ -97,12 +100,13 @@ impl Fixture {
     {
         let key = key_of(page, &self.digest);
         match self.pool.ask(&key, session) {
-            Ask::Hit(frame) => {
+            Ask::Hit { frame, formed } => {
                 let number = frame.number();
                 self.away.push_reserved(frame);
                 Answer {
                     seen: Seen::Hit,
                     number,
+                    formed,
                 }
             }
             Ask::Start(frame) => {
@@ -111,19 +115,23 @@ impl Fixture {
                 Answer {
                     seen: Seen::Start,
                     number,
+                    formed: false,
                 }
             }
             Ask::Reading { who } => Answer {
                 seen: Seen::Reading,
                 number: who,
+                formed: false,
             },
             Ask::Busy { who } => Answer {
                 seen: Seen::Busy,
                 number: who,
+                formed: false,
             },
             Ask::Full { frames } => Answer {
                 seen: Seen::Full,
                 number: frames,
+                formed: false,
             },
         }
     }
@@ -142,7 +150,7 @@ impl Fixture {
     pub fn give(&mut self, way: Way, page: u32) -> bool {
         match way {
             Way::Landed => self.land(page),
-            Way::Back => self.give_back(page),
+            Way::Back { formed } => self.give_back(page, formed),
             Way::Lost => self.lose(page),
         }
     }
@@ -159,7 +167,7 @@ impl Fixture {
         true
     }
 
-    fn give_back(&mut self, page: u32) -> bool {
+    fn give_back(&mut self, page: u32, formed: bool) -> bool {
         if self.away.is_empty() {
             return false;
         }
@@ -167,7 +175,7 @@ impl Fixture {
             unreachable!();
         };
         let key = key_of(page, &self.digest);
-        self.pool.back(&key, frame);
+        self.pool.back(&key, frame, formed);
         true
     }
 

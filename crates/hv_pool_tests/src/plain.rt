@@ -16,7 +16,7 @@ enum State {
     InHand,
 }
 
-// A frame: the page under which it stands, for which session it is away, when its page came back, and who waits for it, a bit each.
+// A frame: the page under which it stands, for which session it is away, when its page came back, who waits for it, a bit each, and what is noted of its form.
 #[derive(Clone, Copy)]
 struct Place {
     state: State,
@@ -24,6 +24,7 @@ struct Place {
     session: u32,
     came: u64,
     waits: u64,
+    formed: bool,
 }
 
 // A frame without a page.
@@ -33,6 +34,7 @@ const EMPTY: Place = Place {
     session: 0,
     came: 0,
     waits: 0,
+    formed: false,
 };
 
 impl Place {
@@ -126,14 +128,14 @@ impl Plain {
             return false;
         }
         match self.place_of(page) {
-            Some(n) => self.ask_standing(n, session, answer.number),
+            Some(n) => self.ask_standing(n, session, answer),
             None if answer.seen == Seen::Start => self.start(page, session, answer.number),
             None => answer.number == 3,
         }
     }
 
-    // A session asks for the page of a frame. False where the frame or the session isn't the one that was answered.
-    fn ask_standing(&mut self, n: usize, session: u32, number: u32) -> bool
+    // A session asks for the page of a frame. False where the frame, the note on its page or the session isn't what was answered.
+    fn ask_standing(&mut self, n: usize, session: u32, answer: &Answer) -> bool
         requires { (n < 3) × (session < 64) }
     {
         let place = &mut self.places[n];
@@ -142,13 +144,13 @@ impl Plain {
                 place.state = State::InHand;
                 place.session = session;
                 place.waits &= !(1 << session);
-                number as usize == n
+                answer.number as usize == n && answer.formed == place.formed
             }
             State::Reading => {
                 place.waits |= 1 << session;
-                number == place.session
+                answer.number == place.session
             }
-            State::InHand => number == place.session,
+            State::InHand => answer.number == place.session,
         }
     }
 
@@ -166,6 +168,7 @@ impl Plain {
             session,
             came: 0,
             waits: 1 << session,
+            formed: false,
         };
         true
     }
@@ -187,6 +190,7 @@ impl Plain {
         if way != Way::Lost && place.state == wanted && place.page == page {
             place.state = State::Cached;
             place.came = clock;
+            place.formed = matches!(way, Way::Back { formed: true });
         } else {
             *place = EMPTY;
         }

@@ -1,6 +1,6 @@
 // Each call on a pool, step by step.
 use crate::fixture::{Fixture, Way};
-use Step::{Back, Busy, Forget, Full, Hit, Landed, Look, Lost, Reading, Start};
+use Step::{Back, Busy, Forget, Formed, FormedHit, Full, Hit, Landed, Look, Lost, Reading, Start};
 use hv_pool::Seen;
 use std::alloc::{AllocError, Global};
 use std::test::Fail;
@@ -9,6 +9,8 @@ use std::test::Fail;
 #[derive(Clone, Copy)]
 enum Step {
     Hit(u32, u8),
+    // The same, with the note that the page has its form.
+    FormedHit(u32, u8),
     Start(u32, u8),
     Reading(u32, u8, u32),
     Busy(u32, u8, u32),
@@ -16,6 +18,7 @@ enum Step {
     // The frame that went away last comes back, with the page.
     Landed(u8),
     Back(u8),
+    Formed(u8),
     Lost(u8),
     Forget(u32),
     Look(u8, Seen),
@@ -24,13 +27,15 @@ enum Step {
 // Takes the step, and tells whether this is answered.
 fn is_answered(fixture: &mut Fixture, step: Step) -> bool {
     match step {
-        Hit(session, page) => asks(fixture, session, page, Seen::Hit, None),
+        Hit(session, page) => hits(fixture, session, page, false),
+        FormedHit(session, page) => hits(fixture, session, page, true),
         Start(session, page) => asks(fixture, session, page, Seen::Start, None),
         Reading(session, page, other) => asks(fixture, session, page, Seen::Reading, Some(other)),
         Busy(session, page, other) => asks(fixture, session, page, Seen::Busy, Some(other)),
         Full(session, page) => asks(fixture, session, page, Seen::Full, Some(3)),
         Landed(page) => fixture.give(Way::Landed, u32::from(page)),
-        Back(page) => fixture.give(Way::Back, u32::from(page)),
+        Back(page) => fixture.give(Way::Back { formed: false }, u32::from(page)),
+        Formed(page) => fixture.give(Way::Back { formed: true }, u32::from(page)),
         Lost(page) => fixture.give(Way::Lost, u32::from(page)),
         Forget(session) => {
             fixture.forget(session % 64);
@@ -38,6 +43,12 @@ fn is_answered(fixture: &mut Fixture, step: Step) -> bool {
         }
         Look(page, seen) => fixture.look(u32::from(page)) == seen,
     }
+}
+
+// Whether the page is here, with this note on its form.
+fn hits(fixture: &mut Fixture, session: u32, page: u8, formed: bool) -> bool {
+    let answer = fixture.ask(u32::from(page), session % 64);
+    answer.seen == Seen::Hit && answer.formed == formed
 }
 
 // Whether this is answered to an ask.
@@ -162,6 +173,26 @@ const OLDEST: [Step; 13] = [
     Look(1, Seen::Hit),
 ];
 
+// A page that landed isn't noted to have its form; what is noted when it comes back is told at the next hit, and is gone once it gave up its frame.
+const FORMED: [Step; 16] = [
+    Start(0, 1),
+    Landed(1),
+    Hit(0, 1),
+    Formed(1),
+    FormedHit(1, 1),
+    Back(1),
+    Hit(0, 1),
+    Formed(1),
+    Start(0, 2),
+    Start(0, 3),
+    Start(0, 4),
+    Lost(4),
+    Start(0, 1),
+    Landed(1),
+    Hit(0, 1),
+    Back(1),
+];
+
 #[test]
 fn asks_and_looks(rt: HostRuntime) -> Result<(), Fail> {
     assert!(rt; first_wrong(rt.alloc(), &ASK)? == None);
@@ -174,6 +205,7 @@ fn asks_and_looks(rt: HostRuntime) -> Result<(), Fail> {
 fn takes_frames_back(rt: HostRuntime) -> Result<(), Fail> {
     assert!(rt; first_wrong(rt.alloc(), &LANDED)? == None);
     assert!(rt; first_wrong(rt.alloc(), &BACK)? == None);
+    assert!(rt; first_wrong(rt.alloc(), &FORMED)? == None);
     assert!(rt; first_wrong(rt.alloc(), &LOST)? == None);
     Ok(())
 }

@@ -5,7 +5,7 @@ use Rattle.std.proofs.lemmas.List.Sums.{count_by-le-length}
 use Rattle.hv_pool.specs.declared.slot.Slot.{Slot}
 use Rattle.hv_frames.specs.Frames.{Framed}
 use Rattle.hv_pool.specs.Slots.{Pooled, IsAway, is_away, is_open}
-use Rattle.hv_pool.specs.Moves.{Arrives, brings}
+use Rattle.hv_pool.specs.Moves.{Arrives, brings, notes}
 use Rattle.hv_pool.proofs.Places.{away_at, at_place, no_slot, return_order, arrives_to}
 use Rattle.hv_pool.specs.Shape.{IsInOrder}
 use Rattle.hv_pool.specs.Made.{owner_of}
@@ -48,7 +48,7 @@ overflow_add-self c =
     let own = c.requires.away.owner ∙ ap (λ (p : Pooled). p.owner) (sym c.self.view_is) in
     let there : c.index.result.now ≡ c.put_back.new.slot = c.index.ensures ∙ get_or-set_same slots n c.put_back.new.slot c.index.result.now (away_at _ slots c.self.inside.came c.self.inside.openings n c.self.invariant.0 h no_slot).within in
     let opens : c.self.inside.openings + c.openings_of.result ≡ c.self.inside.openings + cond (is_open c.put_back.new.slot) 1 0 = ap (λ (k : ℕ). c.self.inside.openings + k) (c.openings_of.ensures ∙ ap {B = ℕ} (λ z. cond (is_open z) 1 0) there) in
-    let o = return_order _ slots c.self.inside.came 0 c.self.inside.openings (c.self.inside.openings + c.openings_of.result) n (brings c.args.way) c.args.key.now c.args.frame c.index_mut.result.now c.put_back.new.slot c.self.invariant.0 h c.index_mut.ensures.value c.put_back.ensures own (sym c.number-n.ensures) c.requires.digest opens in
+    let o = return_order _ slots c.self.inside.came 0 c.self.inside.openings (c.self.inside.openings + c.openings_of.result) n (brings c.args.way) (notes c.args.way) c.args.key.now c.args.frame c.index_mut.result.now c.put_back.new.slot c.self.invariant.0 h c.index_mut.ensures.value c.put_back.ensures own (sym c.number-n.ensures) c.requires.digest opens in
     omega (arith, o.counted, count_by-le-length is_open (set slots n c.put_back.new.slot), o.short)
 
 pub reorder-requires-clause-within : goal.reorder-requires-clause-within
@@ -64,9 +64,9 @@ invariant_of-self c =
     let own = c.requires.away.owner ∙ ap (λ (p : Pooled). p.owner) (sym c.self.view_is) in
     let there : c.index.result.now ≡ c.put_back.new.slot = c.index.ensures ∙ get_or-set_same slots n c.put_back.new.slot c.index.result.now (away_at _ slots c.self.inside.came c.self.inside.openings n c.self.invariant.0 h no_slot).within in
     let opens : c.self.inside.openings + c.openings_of.result ≡ c.self.inside.openings + cond (is_open c.put_back.new.slot) 1 0 = ap (λ (k : ℕ). c.self.inside.openings + k) (c.openings_of.ensures ∙ ap {B = ℕ} (λ z. cond (is_open z) 1 0) there) in (
-      return_order _ slots c.self.inside.came _ c.self.inside.openings _ n (brings c.args.way) c.args.key.now c.args.frame c.index_mut.result.now c.put_back.new.slot c.self.invariant.0 h c.index_mut.ensures.value c.put_back.ensures own (sym c.number-n.ensures) c.requires.digest opens,
+      return_order _ slots c.self.inside.came _ c.self.inside.openings _ n (brings c.args.way) (notes c.args.way) c.args.key.now c.args.frame c.index_mut.result.now c.put_back.new.slot c.self.invariant.0 h c.index_mut.ensures.value c.put_back.ensures own (sym c.number-n.ensures) c.requires.digest opens,
       record { none = c.self.invariant.1.none; wide = omega (arith, c.self.invariant.1.wide, length-set slots n c.put_back.new.slot) },
-      return_index c.self.inside.links.items _ slots c.self.inside.came c.self.inside.openings n (brings c.args.way) c.args.key.now c.args.frame c.index_mut.result.now c.put_back.new.slot c.self.invariant.2 c.self.invariant.0 h c.index_mut.ensures.value c.put_back.ensures,
+      return_index c.self.inside.links.items _ slots c.self.inside.came c.self.inside.openings n (brings c.args.way) (notes c.args.way) c.args.key.now c.args.frame c.index_mut.result.now c.put_back.new.slot c.self.invariant.2 c.self.invariant.0 h c.index_mut.ensures.value c.put_back.ensures,
       ordered_back c.self.inside.tree.items c.reorder.new.tree c.self.inside.tree.len (set slots n c.put_back.new.slot) (c.reorder.ensures.length ∙ ap length c.as_mut_slice.ensures.value) c.self.inside.tree.ok.0
           (subst (λ (l : List Slot). IsOrdered c.reorder.new.tree l) c.as_slice.ensures.value c.reorder.ensures.ordered),
     )

@@ -22,7 +22,7 @@ invariant_of-self c =
     let n = c.in-Some.n in
     let s : Slot = c.index_mut.result.now in
     let v : Slot = c.take_standing-taken.new.slot in
-    let t = take_found owner slots _ c.self.inside.came c.self.inside.openings n c.args.key.now c.args.who s v c.take_standing-taken.result c.self.invariant.0 c.as_slice.ensures.value c.in-Some.ensures.found c.index_mut.ensures.value c.take_standing-taken.ensures in
+    let t = take_found owner slots _ c.self.inside.came c.self.inside.openings n c.args.key.now c.args.who s v c.take_standing-taken.result c.requires c.self.invariant.0 c.as_slice.ensures.value c.in-Some.ensures.found c.index_mut.ensures.value c.take_standing-taken.ensures in
     let less : cond (is_open s) 1 0 ≡ c.openings_of.result = ap {B = ℕ} (λ z. cond (is_open z) 1 0) (read_twice slots n s c.index.result.now t.1 c.index_mut.ensures.value c.index.ensures) ∙ sym c.openings_of.ensures in (
       subst (λ (k : ℕ). IsInOrder owner (set slots n v) c.self.inside.came (c.self.inside.openings - k)) less t.0.0,
       record { none = c.self.invariant.1.none; wide = omega (arith, c.self.invariant.1.wide, length-set slots n v) },
@@ -33,7 +33,7 @@ invariant_of-self c =
 
 pub returns-in-Some : goal.returns-in-Some
 returns-in-Some c =
-    let t = take_found (owner_of c.self.inside.mark.value.items) c.self.inside.slots.items _ c.self.inside.came c.self.inside.openings c.in-Some.n c.args.key.now c.args.who c.index_mut.result.now c.take_standing-taken.new.slot c.take_standing-taken.result c.self.invariant.0 c.as_slice.ensures.value c.in-Some.ensures.found c.index_mut.ensures.value c.take_standing-taken.ensures in
+    let t = take_found (owner_of c.self.inside.mark.value.items) c.self.inside.slots.items _ c.self.inside.came c.self.inside.openings c.in-Some.n c.args.key.now c.args.who c.index_mut.result.now c.take_standing-taken.new.slot c.take_standing-taken.result c.requires c.self.invariant.0 c.as_slice.ensures.value c.in-Some.ensures.found c.index_mut.ensures.value c.take_standing-taken.ensures in
     record {
       told = subst (λ (p : Pooled). answer_of c.take_standing-taken.result ≡ seen_at p c.args.key.now) c.self.view_is t.0.2;
       change = subst (λ (p : Pooled). Asks p c.args.key.now c.args.who c.take_standing-taken.result (record { owner = owner_of c.self.inside.mark.value.items; slots = set c.self.inside.slots.items c.in-Some.n c.take_standing-taken.new.slot; came = c.self.inside.came })) c.self.view_is t.0.1;
@@ -56,7 +56,7 @@ invariant_of-self-in-Some-find_open c =
     let v : Slot = c.start_in-frame.new.slot in
     let links : List ℕ = c.reindex.new.links in
     let back = sym (take_at links (drop (length links) c.self.inside.links.items) c.self.inside.links.len (omega (arith, c.reindex.ensures.length, ap length c.as_mut_slice-in-Some-find_open.ensures.value, c.self.inside.links.ok.0))) in
-    let t = start_found (owner_of c.self.inside.mark.value.items) slots _ _ c.self.inside.came c.self.inside.openings n c.args.key.now c.args.who c.index_mut-in-Some-find_open.result.now v c.start_in-frame.result c.self.invariant.0 c.as_slice.ensures.value c.in_default.ensures.none c.as_slice-3.ensures.value c.in-Some-find_open.ensures.found c.index_mut-in-Some-find_open.ensures.value c.start_in-frame.ensures.frame c.start_in-frame.ensures.started in (
+    let t = start_found (owner_of c.self.inside.mark.value.items) slots _ _ c.self.inside.came c.self.inside.openings n c.args.key.now c.args.who c.index_mut-in-Some-find_open.result.now v c.start_in-frame.result c.requires c.self.invariant.0 c.as_slice.ensures.value c.in_default.ensures.none c.as_slice-3.ensures.value c.in-Some-find_open.ensures.found c.index_mut-in-Some-find_open.ensures.value c.start_in-frame.ensures.frame c.start_in-frame.ensures.started in (
       t.0,
       record { none = c.self.invariant.1.none; wide = omega (arith, c.self.invariant.1.wide, length-set slots n v) },
       subst (λ (l : List ℕ). IsIndexed l (set slots n v)) back
@@ -67,7 +67,7 @@ invariant_of-self-in-Some-find_open c =
 
 pub returns-in-Some-find_open : goal.returns-in-Some-find_open
 returns-in-Some-find_open c =
-    let t = start_found (owner_of c.self.inside.mark.value.items) c.self.inside.slots.items _ _ c.self.inside.came c.self.inside.openings c.in-Some-find_open.n c.args.key.now c.args.who c.index_mut-in-Some-find_open.result.now c.start_in-frame.new.slot c.start_in-frame.result c.self.invariant.0 c.as_slice.ensures.value c.in_default.ensures.none c.as_slice-3.ensures.value c.in-Some-find_open.ensures.found c.index_mut-in-Some-find_open.ensures.value c.start_in-frame.ensures.frame c.start_in-frame.ensures.started in
+    let t = start_found (owner_of c.self.inside.mark.value.items) c.self.inside.slots.items _ _ c.self.inside.came c.self.inside.openings c.in-Some-find_open.n c.args.key.now c.args.who c.index_mut-in-Some-find_open.result.now c.start_in-frame.new.slot c.start_in-frame.result c.requires c.self.invariant.0 c.as_slice.ensures.value c.in_default.ensures.none c.as_slice-3.ensures.value c.in-Some-find_open.ensures.found c.index_mut-in-Some-find_open.ensures.value c.start_in-frame.ensures.frame c.start_in-frame.ensures.started in
     record {
       told = subst (λ (p : Pooled). seen.Start ≡ seen_at p c.args.key.now) c.self.view_is t.2;
       change = subst (λ (p : Pooled). Asks p c.args.key.now c.args.who (ask.Start c.start_in-frame.result) (record { owner = owner_of c.self.inside.mark.value.items; slots = set c.self.inside.slots.items c.in-Some-find_open.n c.start_in-frame.new.slot; came = c.self.inside.came })) c.self.view_is t.1;
