@@ -6,6 +6,7 @@ use Rattle.std.proofs.lemmas.Bool.{lt-ltb}
 use Rattle.std.proofs.lemmas.Nat.Bits.{bit_at_clear_same, bit_at_clear_other}
 use Rattle.std.proofs.lemmas.List.Elements.{All-map}
 use Rattle.std.proofs.lemmas.List.Sums.{sum_by-cons}
+use Rattle.std.proofs.lemmas.List.Sorted.{length_permutation}
 use Rattle.hv_pool.specs.declared.key.PageKey.{PageKey}
 use Rattle.hv_pool.specs.declared.slot.Held.{Held}
 use Rattle.hv_pool.specs.declared.slot.Held.TheVariants as held
@@ -67,6 +68,56 @@ owed_where_full p key some none full = first p.slots some none (full_shuts p key
         let a : one (is_gone x) ≡ 0 = omega (arith, g, sum_by-cons (λ s. cond (is_gone s) 1 0) x xs) in
         let b : one (is_open x) ≡ 0 = omega (arith, e, sum_by-cons (λ s. cond (is_open s) 1 0) x xs) in
         omega (arith, here x xs a b, sum_by-cons (λ s. cond (is_owed s) 1 0) x xs)
+
+-- each frame is free, or has a page, or its page is read, or it is in a hand
+pub frames_all : (p : Pooled) → count_by (λ s. is_free s.held) p.slots + count_by (λ s. is_cached s.held) p.slots + count_by (λ s. is_reading s.held) p.slots + count_by (λ s. is_in_hand s.held) p.slots ≡ length p.slots
+frames_all p = go p.slots
+  where
+    each : (h : Held) → one (is_free h) + one (is_cached h) + one (is_reading h) + one (is_in_hand h) ≡ 1
+    each held.Free = refl
+    each held.Cached = refl
+    each (held.Reading who) = refl
+    each (held.InHand who) = refl
+
+    go : (xs : List Slot) → count_by (λ s. is_free s.held) xs + count_by (λ s. is_cached s.held) xs + count_by (λ s. is_reading s.held) xs + count_by (λ s. is_in_hand s.held) xs ≡ length xs
+    go [] = refl
+    go (x ∷ xs) =
+        omega (
+          arith,
+          go xs,
+          each x.held,
+          sum_by-cons (λ s. cond (is_free s.held) 1 0) x xs,
+          sum_by-cons (λ s. cond (is_cached s.held) 1 0) x xs,
+          sum_by-cons (λ s. cond (is_reading s.held) 1 0) x xs,
+          sum_by-cons (λ s. cond (is_in_hand s.held) 1 0) x xs,
+        )
+
+-- where a page finds no frame, all are away or owed
+pub full_of : (p : Pooled) (key : PageKey) → seen_at p key ≡ seen.Full → count_by is_gone p.slots + count_by is_owed p.slots ≡ length p.slots
+full_of p key full = omega (arith, go p.slots, full_shuts p key full)
+  where
+    each : (h : Held) (none : Bool) → one (is_reading h || is_in_hand h) + one (is_cached h && not none) + one (is_free h || (is_cached h && none)) ≡ 1
+    each held.Free none = refl
+    each held.Cached true = refl
+    each held.Cached false = refl
+    each (held.Reading who) none = refl
+    each (held.InHand who) none = refl
+
+    go : (xs : List Slot) → count_by is_gone xs + count_by is_owed xs + count_by is_open xs ≡ length xs
+    go [] = refl
+    go (x ∷ xs) =
+        omega (
+          arith,
+          go xs,
+          each x.held (nat_eq x.waits 0),
+          sum_by-cons (λ s. cond (is_gone s) 1 0) x xs,
+          sum_by-cons (λ s. cond (is_owed s) 1 0) x xs,
+          sum_by-cons (λ s. cond (is_open s) 1 0) x xs,
+        )
+
+-- no frame comes to a pool, and none leaves it
+pub moves_stay : (old new : Pooled) (before after : Slot) → Moves old new before after → length new.slots ≡ length old.slots
+moves_stay old new before after m = omega (arith, length_permutation old.slots (before ∷ m.rest) m.were, length_permutation new.slots (after ∷ m.rest) m.are)
 
 pub moves_weigh : (old new : Pooled) (before after : Slot) → Moves old new before after → (weight : Slot → ℕ) → sum_by weight new.slots + weight before ≡ sum_by weight old.slots + weight after
 moves_weigh old new before after m weight = omega (arith, weighed weight old.slots before m.rest m.were, weighed weight new.slots after m.rest m.are)

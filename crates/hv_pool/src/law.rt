@@ -3,7 +3,7 @@ ghost use Rattle.std.specs.Prelude.{◌≡◌, ℕ, ◌+◌, ◌<◌, ◌≤◌,
 ghost use Rattle.std.specs.List.{sum_by, count_by};
 ghost use Rattle.hv_frames.specs.Frames.{Framed};
 ghost use Rattle.hv_pool.specs.Key.{same_key};
-ghost use Rattle.hv_pool.specs.Slots.{Pooled, IsPool, IsAway, seen_at, under, cached_at, is_gone, is_owed, owed_at, is_held_by, waits_at, waits_bit};
+ghost use Rattle.hv_pool.specs.Slots.{Pooled, IsPool, IsAway, seen_at, is_free, is_cached, is_reading, is_in_hand, under, cached_at, is_gone, is_owed, owed_at, is_held_by, waits_at, waits_bit};
 ghost use Rattle.hv_pool.specs.Moves.{Moves, Asks, is_hit, Arrives, brings, brings_owed, Forgets, joined_by, forgotten};
 ghost use Rattle.hv_pool.specs.declared.slot.Arrival.{Arrival};
 ghost use Rattle.hv_pool.specs.declared.seen.Ask.{Ask};
@@ -11,13 +11,17 @@ ghost use Rattle.hv_pool.specs.declared.key.PageKey.{PageKey};
 ghost use Rattle.hv_pool.specs.declared.seen.Seen.TheVariants as seen;
 ghost use Rattle.hv_pool.specs.declared.slot.Slot.{Slot};
 
-/// Where one key finds no frame, none does. Where no frame is away and a key finds none, a session waits for a page that is here.
+/// The frames that are free, that have a page, whose page is read and that are in a hand are all frames, and no call changes how many they are.
+/// Where one key finds no frame, none does, and each frame is away or owed. Where no frame is away and a key finds none, a session waits for a page that is here.
 /// Whatever is counted of the places changes by the place that a call changes, and by no other. So what passed there and still passes is counted
 /// as often at least: a wait or a cached page is lost only where the call ends it. Where a session's waits end, all that hangs on no wait stays,
 /// the session waits for no page, and each other one for those for which it waited.
 /// This project's own. It does nothing: its contract is these laws.
 pub fn pool_laws()
+    ensures frames { (p : Pooled) → count_by (λ s. is_free s.held) p.slots + count_by (λ s. is_cached s.held) p.slots + count_by (λ s. is_reading s.held) p.slots + count_by (λ s. is_in_hand s.held) p.slots ≡ length p.slots }
+    ensures stay { (old new : Pooled) (before after : Slot) → Moves old new before after → length new.slots ≡ length old.slots }
     ensures full { (p : Pooled) (key other : PageKey) → seen_at p key ≡ seen.Full → ¬ (seen_at p other ≡ seen.Start) }
+    ensures shut { (p : Pooled) (key : PageKey) → seen_at p key ≡ seen.Full → count_by is_gone p.slots + count_by is_owed p.slots ≡ length p.slots }
     ensures owed { (p : Pooled) (key : PageKey) → 0 < length p.slots → count_by is_gone p.slots ≡ 0 → seen_at p key ≡ seen.Full → 0 < count_by is_owed p.slots }
     ensures moved { (old new : Pooled) (before after : Slot) → Moves old new before after → (weight : Slot → ℕ) → sum_by weight new.slots + weight before ≡ sum_by weight old.slots + weight after }
     ensures kept { (old new : Pooled) (before after : Slot) → Moves old new before after → (test : Slot → Bool) → (test before ≡ true → test after ≡ true) → count_by test old.slots ≤ count_by test new.slots }

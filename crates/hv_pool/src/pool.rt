@@ -1,5 +1,5 @@
 // The pool.
-ghost use Rattle.std.specs.Prelude.{◌≡◌, ℕ, ◌+◌, ◌<◌, ◌≤◌, ◌^◌, List, [], map, length, IfSome, IfNone, IfOk, IfErr, IsSome, Some, None, get_or, true, if◌then◌else◌, IsPermutation, vec_capacity};
+ghost use Rattle.std.specs.Prelude.{◌≡◌, ℕ, ◌+◌, ◌<◌, ◌≤◌, ◌^◌, List, [], map, length, IfSome, IfNone, IfOk, IfErr, IsSome, Some, None, get_or, true, false, if◌then◌else◌, IsPermutation, vec_capacity};
 ghost use Rattle.std.specs.List.{count_by, All, range_with_len};
 ghost use Rattle.hv_frames.specs.Frames.{AreAll};
 ghost use Rattle.hv_pool.specs.Made.{AreOfOne, IsMade, IsFilled, empty_slot, here};
