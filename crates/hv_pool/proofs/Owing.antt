@@ -1,7 +1,7 @@
 -- What each call leaves of the pages that are owed.
-use Rattle.std.proofs.Common.{◌≡◌, ℕ, ◌+◌, ◌<◌, ◌^◌, Bool, true, false, cond, ◌&&◌, ◌||◌, not, nat_eq, if◌then◌else◌, List, [], ◌∷◌, map, get_or, refl, sym, ap, ◌∙◌, arith, true≢false}
+use Rattle.std.proofs.Common.{◌≡◌, ℕ, ◌+◌, ◌<◌, Bool, true, false, cond, ◌&&◌, ◌||◌, not, nat_eq, if◌then◌else◌, List, [], ◌∷◌, map, get_or, refl, sym, ap, ◌∙◌, arith, true≢false}
 use Rattle.std.specs.Int.{w64, trailing_zeros}
-use Rattle.std.specs.List.{sum_by, count_by}
+use Rattle.std.specs.List.{count_by}
 use Rattle.std.proofs.lemmas.Bool.{eqb-true, eqb-false, eq-eqb}
 use Rattle.std.proofs.lemmas.Nat.Bits.{bit_at-zero, bit_at-trailing_zeros}
 use Rattle.std.proofs.lemmas.List.Sums.{sum_by-cons}
@@ -15,10 +15,10 @@ use Rattle.hv_pool.specs.declared.seen.Ask.{Ask}
 use Rattle.hv_pool.specs.declared.seen.Ask.TheVariants as ask
 use Rattle.hv_pool.specs.Key.{same_key}
 use Rattle.hv_pool.specs.Slots.{Pooled, IsPool, IsAway, stands, under, is_free, is_cached, is_open, is_gone, is_owed, owed_at, cached_at, is_numbered, is_reading, is_in_hand, waits_bit}
-use Rattle.hv_pool.specs.Moves.{Moves, Asks, Arrives, Forgets, is_hit, brings, brings_owed, notes, taken_by, started_by, joined_by, returned, cached_as, freed, forgotten}
+use Rattle.hv_pool.specs.Moves.{Asks, Arrives, Forgets, is_hit, brings, brings_owed, notes, taken_by, started_by, joined_by, returned, cached_as, freed, forgotten}
 use Rattle.hv_pool.proofs.Places.{weighed, both, count_le, find, some_here, get_or_any, no_slot}
 use Rattle.hv_pool.proofs.Laws.{moves_weigh, and_false}
-use Rattle.hv_pool.proofs.Others.{Came, came, the_place, same_count}
+use Rattle.hv_pool.proofs.Others.{came, the_place, same_count}
 
 not_true : (b : Bool) → not b ≡ true → b ≡ false
 not_true true e = absurd (true≢false (sym e))
