@@ -11,13 +11,18 @@ SELECT * FROM people WHERE id > 2;
 IMPORT INTO people LINES 2;
 4,Dan
 five,Eve
-IMPORT INTO people LINES 1;
+IMPORT INTO people LINES 2;
+5,Eve
 6
 IMPORT INTO people LINES 1;
-7,"Gus"
+6,Fay,
 IMPORT INTO people LINES 1;
 9223372036854775808,Hal
 IMPORT INTO nobody LINES 1;
 8,Ida
 IMPORT INTO people LINES -1;
 SELECT COUNT(*) FROM people;
+IMPORT INTO people LINES 2;
+4,Dan
+5,Eve
+SELECT * FROM people WHERE id >= 3 ORDER BY id;

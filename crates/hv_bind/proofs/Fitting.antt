@@ -36,7 +36,8 @@ use Rattle.hv_row.specs.declared.schema.Column.{Column}
 use Rattle.hv_model.specs.Sql.{is_aggregate}
 use Rattle.hv_model.specs.Scope.{all_columns}
 use Rattle.hv_model.specs.Fits.{kind_of, is_column, operand_kind, same_kind, is_int, fits_step, cond_fits, item_fits, is_grouped_item, is_plain_item, FitsSchemas}
-use Rattle.hv_model.specs.Bound.{first_of, unless, schemas_of, ref_of, operand_of, cond_step, cond_of, items_of, all_items, is_item, item_number, key_item, key_of, is_any, is_grouped, bound_query, ref_refusal, item_refusal, operand_refusal, test_refusal, refusal_step, cond_refusal, key_refusal, names_refusal, is_among, plain_refusal, grouping_refusal, if_none, order_refusal, bind_refusal}
+use Rattle.hv_model.specs.Causes.{first_of, unless}
+use Rattle.hv_model.specs.Bound.{schemas_of, ref_of, operand_of, cond_step, cond_of, items_of, all_items, is_item, item_number, key_item, key_of, is_any, is_grouped, bound_query, ref_refusal, item_refusal, operand_refusal, test_refusal, refusal_step, cond_refusal, key_refusal, names_refusal, is_among, plain_refusal, grouping_refusal, if_none, order_refusal, bind_refusal}
 use Rattle.hv_bind.proofs.Refusing.{none_first}
 use Rattle.hv_bind.proofs.Standing.{ref_stands, columns_stand}
 

@@ -11,7 +11,8 @@ use Rattle.hv_model.specs.declared.catalogue.TableHead.{TableHead}
 use Rattle.hv_model.specs.declared.query.Item.{Item}
 use Rattle.hv_model.specs.declared.reply.Refusal.{Refusal}
 use Rattle.hv_model.specs.Scope.{place_refusal, refusal_behind, places_refusal}
-use Rattle.hv_model.specs.Bound.{first_of, all_items, names_refusal, grouping_refusal, order_refusal, bind_refusal}
+use Rattle.hv_model.specs.Causes.{first_of}
+use Rattle.hv_model.specs.Bound.{all_items, names_refusal, grouping_refusal, order_refusal, bind_refusal}
 use Rattle.hv_bind.specs.declared.binding.BindFault.{BindFault}
 use Rattle.hv_bind.specs.declared.binding.BindFault.TheVariants.{Refused, Memory}
 use Rattle.hv_bind.specs.Cause.{IsFirstRefusal}

@@ -16,7 +16,8 @@ use Rattle.hv_model.specs.declared.query.ColRef.{ColRef}
 use Rattle.hv_model.specs.declared.reply.Refusal.{Refusal}
 use Rattle.hv_model.specs.Scope.{column_number, column_at, columns_named, the_one, or_absent, place_number, column_in, meant, resolved, columns_from, columns_of_places, all_columns}
 use Rattle.hv_model.specs.Fits.{is_column}
-use Rattle.hv_model.specs.Bound.{refusal_in, schemas_of, found, ref_of, ref_refusal}
+use Rattle.std.specs.Result.{result_err}
+use Rattle.hv_model.specs.Bound.{schemas_of, found, ref_of, ref_refusal}
 
 -- ---- lists
 
@@ -97,7 +98,7 @@ meant_stands places heads (Some alias) name byte c e =
     option_and_then_some (column_in heads name) (place_number places alias) c (present (option_and_then (column_in heads name) (place_number places alias)) byte c e)
     (λ place is found. in_place heads name place c found)
 
-found_stands : (test : ColRef → Bool) (o : Result ColRef Refusal) → ((c : ColRef) → o ≡ Ok c → test c ≡ true) → refusal_in o ≡ None → test (found o) ≡ true
+found_stands : (test : ColRef → Bool) (o : Result ColRef Refusal) → ((c : ColRef) → o ≡ Ok c → test c ≡ true) → result_err o ≡ None → test (found o) ≡ true
 found_stands test (Ok c) each none = each c refl
 found_stands test (Err r) each none = absurd cc
 

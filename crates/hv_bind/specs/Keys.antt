@@ -6,7 +6,8 @@ use Rattle.hv_model.specs.declared.catalogue.TableHead.{TableHead}
 use Rattle.hv_model.specs.declared.query.Item.{Item}
 use Rattle.hv_model.specs.declared.reply.Refusal.{Refusal}
 use Rattle.hv_model.specs.declared.reply.Refusal.TheVariants.{NoOutput}
-use Rattle.hv_model.specs.Bound.{first_of, if_none, key_item}
+use Rattle.hv_model.specs.Causes.{first_of}
+use Rattle.hv_model.specs.Bound.{if_none, key_item}
 
 -- an order key that names none of these items
 abbrev pub key_refusal : List PlaceAst → List TableHead → List Item → KeyAst → Option Refusal

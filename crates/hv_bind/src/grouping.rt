@@ -1,10 +1,12 @@
 // Plain columns of a grouped select.
 ghost use Rattle.std.specs.Prelude.{◌≡◌, map};
 ghost use Rattle.std.specs.List.{list_all};
+ghost use Rattle.std.specs.Result.{result_err};
+ghost use Rattle.hv_model.specs.Causes.{first_of};
 ghost use Rattle.hv_model.specs.Scope.{all_columns};
 ghost use Rattle.hv_model.specs.Fits as fits;
 ghost use Rattle.hv_model.specs.Bound as spec;
-ghost use Rattle.hv_model.specs.Bound.{refusal_in, ref_of};
+ghost use Rattle.hv_model.specs.Bound.{ref_of};
 
 use crate::scope::Scope;
 use hv_model::{ColRef, ItemAst, Refusal, SelectAst, is_grouped};
@@ -39,7 +41,7 @@ impl Scope<'_> {
         columns: &[ColRef],
     ) -> Result<(), Refusal>
         requires { columns.now ≡ all_columns self.now.heads.now }
-        ensures { refusal_in result ≡ spec.plain_refusal self.now.places.now self.now.heads.now groups.now item.now }
+        ensures { result_err result ≡ spec.plain_refusal self.now.places.now self.now.heads.now groups.now item.now }
     {
         match item {
             ItemAst::Star { byte } if !are_among(groups, columns) => {
@@ -62,7 +64,7 @@ impl Scope<'_> {
         columns: &[ColRef],
     ) -> Result<(), Refusal>
         requires { columns.now ≡ all_columns self.now.heads.now }
-        ensures { refusal_in result ≡ spec.first_of (map (spec.plain_refusal self.now.places.now self.now.heads.now groups.now) items.now) }
+        ensures { result_err result ≡ first_of (map (spec.plain_refusal self.now.places.now self.now.heads.now groups.now) items.now) }
     {
         for item in items {
             self.check_plain(item, groups, columns)?;
@@ -80,7 +82,7 @@ impl Scope<'_> {
         requires places { self.now.places.now ≡ ast.now.places }
         requires groups { groups.now ≡ map (ref_of self.now.places.now self.now.heads.now) ast.now.groups }
         requires columns { columns.now ≡ all_columns self.now.heads.now }
-        ensures { refusal_in result ≡ spec.grouping_refusal ast.now self.now.heads.now }
+        ensures { result_err result ≡ spec.grouping_refusal ast.now self.now.heads.now }
     {
         if is_grouped(ast) {
             self.check_all_plain(ast.items.as_slice(), groups, columns)

@@ -1,5 +1,5 @@
 -- What a builder keeps, from its first row to its chunk.
-use Rattle.std.proofs.Common.{◌≡◌, ℕ, ◌+◌, ◌<◌, ◌≤◌, Bool, true, false, Option, Some, inl, inr, List, [], ◌∷◌, ◌++◌, length, take, map, refl, sym, ap, subst, ◌∙◌, arith, length-append}
+use Rattle.std.proofs.Common.{◌≡◌, ℕ, ◌+◌, ◌<◌, ◌≤◌, Bool, true, false, Option, Some, inl, inr, List, [], ◌∷◌, ◌++◌, length, take, map, refl, sym, ap, subst, ◌∙◌, arith, length-append, append-nil}
 use Rattle.std.specs.Prelude.{Result, Ok, Err, OnOk}
 use Rattle.std.specs.List.{AllByRecursion}
 use Rattle.std.proofs.lemmas.List.{map-append, length-map, take_all}
@@ -7,16 +7,21 @@ use Rattle.sha2.specs.Sha256.{sha256}
 use Rattle.hv_row.specs.declared.value.Value.{Value}
 use Rattle.hv_row.specs.declared.schema.Column.{Column}
 use Rattle.hv_row.specs.Row.{row_bytes, RowFits}
+use Rattle.hv_row.specs.Spelling.{IsSpelling}
+use Rattle.hv_row.specs.Packed.{row_spelled}
+use Rattle.hv_row.proofs.Spelled.{spelling_fits, spelling_bytes}
 use Rattle.hv_page.specs.Layout.{Fit, page_of, written_version}
 use Rattle.hv_page.specs.Heap.{heap_kind}
 use Rattle.hv_page.specs.Chunk.{IsPacked, IsStored, heap_pages_from, AreHeapPages}
-use Rattle.hv_page.proofs.Reading.{page_length}
+use Rattle.hv_page.specs.Fault.{entries_of}
+use Rattle.hv_page.proofs.Reading.{page_length, made_entries}
 use Rattle.hv_heap.specs.declared.writer.Placed.{Placed}
 use Rattle.hv_heap.specs.Writer.{Packing, page_now, Stays, Begins, IsPlaced}
 use Rattle.hv_view.specs.View.{IsBuilt}
-use Rattle.hv_chunk.specs.Building.{Building}
+use Rattle.hv_chunk.specs.Building.{Building, rows_on}
 use Rattle.hv_chunk.specs.Keeping.{parts_with, IsKept, IsWhole}
 use Rattle.hv_chunk.proofs.Packing.{flat, pages_once, pages_within}
+use Rattle.hv_chunk.proofs.Standing.{rows_whole, rows_more, rows_turned}
 use Rattle.hv_chunk.proofs.Growing.{stays_packed, begins_packed, flat_stays, flat_begins, pages_more, pages_count}
 
 -- nothing yet
@@ -196,15 +201,49 @@ kept_next before after schema rows more_rows pages more_pages digests more_diges
     (same_pages ∙ ap (λ (p : List ℕ). pages ++ p ∷ []) same) (same_digests ∙ ap (λ (p : List ℕ). digests ++ sha256 p ∷ []) same)
     (kept_begins before after (record { schema = schema; rows = rows; pages = pages }) digests row_count row placed kept few stored begins)
 
--- a row of at most 2,000 bytes is one that a page may hold
-pub stored_of : (schema old_schema of_writer : List Column) (row : List Value) → RowFits old_schema row → schema ≡ old_schema → of_writer ≡ schema → length (row_bytes of_writer row) ≤ 2000 → IsStored schema row
-stored_of schema old_schema of_writer row fits same same_writer short = record {
-  fits = subst (λ (s : List Column). RowFits s row) (sym same) fits;
-  short = omega (arith, short, ap (λ (s : List Column). length (row_bytes s row)) same_writer);
-}
+-- the rows of the builder with one more, which was placed on the page
+pub rows_here : (before after : Packing) (schema : List Column) (pages : List (List ℕ)) (row : List Value) (placed : Placed) → before.schema ≡ schema → RowFits schema row → IsPlaced before after row placed → placed.full ≡ false
+    → rows_on schema pages after.entries ≡ rows_on schema pages before.entries ++ row ∷ []
+rows_here before after schema pages row placed own fits is full =
+    let stays : Stays before after (row_bytes before.schema row) placed = stays_of row placed is full in
+    let entries : after.entries ≡ before.entries ++ row_bytes schema row ∷ [] = ap (λ (w : Packing). w.entries) stays.is ∙ ap (λ (cs : List Column). before.entries ++ row_bytes cs row ∷ []) own in
+    ap (rows_on schema pages) entries ∙ rows_more schema pages before.entries row fits
 
-pub short_of : (schema old_schema : List Column) (row : List Value) → schema ≡ old_schema → IsStored schema row → length (row_bytes old_schema row) ≤ 2000
-short_of schema old_schema row same stored = omega (arith, stored.short, ap (λ (s : List Column). length (row_bytes s row)) same)
+-- where it began the next page, the finished one has the entries of the page that was being made
+finished_entries : (before after : Packing) (schema : List Column) (pages digests : List (List ℕ)) (rows : List (List Value)) (row_count : ℕ) (row : List Value) (placed : Placed) (page : List ℕ) → IsKept before (record { schema = schema; rows = rows; pages = pages }) digests row_count → IsPlaced before after row placed → placed.full ≡ true
+    → page ≡ after.done → entries_of page ≡ before.entries
+finished_entries before after schema pages digests rows row_count row placed page kept is full finished =
+    let begins : Begins before after (row_bytes before.schema row) placed = begins_of row placed is full in
+    let same : page ≡ page_now before = finished ∙ ap (λ (w : Packing). w.done) begins.is in
+    ap entries_of same ∙ made_entries heap_kind written_version before.number before.entries (page_fits kept.parts before.entries kept.packed)
+
+-- so the rows before it all stand on pages
+pub rows_finished : (before after : Packing) (schema : List Column) (pages more_pages digests : List (List ℕ)) (rows : List (List Value)) (row_count : ℕ) (row : List Value) (placed : Placed) (page : List ℕ) → IsKept before (record { schema = schema; rows = rows; pages = pages }) digests row_count → IsPlaced before after row placed → placed.full ≡ true
+    → page ≡ after.done → more_pages ≡ pages ++ page ∷ [] → rows_on schema more_pages [] ≡ rows_on schema pages before.entries
+rows_finished before after schema pages more_pages digests rows row_count row placed page kept is full finished same_pages =
+    ap (λ (p : List (List ℕ)). rows_on schema p []) same_pages
+    ∙ rows_turned schema pages page before.entries [] (finished_entries before after schema pages digests rows row_count row placed page kept is full finished)
+    ∙ ap (rows_on schema pages) (append-nil before.entries)
+
+-- and it stands behind them
+pub rows_next : (before after : Packing) (schema : List Column) (pages more_pages digests : List (List ℕ)) (rows : List (List Value)) (row_count : ℕ) (row : List Value) (placed : Placed) (page : List ℕ) → IsKept before (record { schema = schema; rows = rows; pages = pages }) digests row_count → RowFits schema row → IsPlaced before after row placed → placed.full ≡ true
+    → page ≡ after.done → more_pages ≡ pages ++ page ∷ [] → rows_on schema more_pages after.entries ≡ rows_on schema pages before.entries ++ row ∷ []
+rows_next before after schema pages more_pages digests rows row_count row placed page kept fits is full finished same_pages =
+    let begins : Begins before after (row_bytes before.schema row) placed = begins_of row placed is full in
+    let entries : after.entries ≡ row_bytes schema row ∷ [] = ap (λ (w : Packing). w.entries) begins.is ∙ ap (λ (cs : List Column). row_bytes cs row ∷ []) kept.schema_is in
+    let of_page = finished_entries before after schema pages digests rows row_count row placed page kept is full finished in
+    ap (λ (p : List (List ℕ)). rows_on schema p after.entries) same_pages ∙ ap (rows_on schema (pages ++ page ∷ [])) entries
+    ∙ rows_turned schema pages page before.entries (row_bytes schema row ∷ []) of_page
+    ∙ rows_more schema pages before.entries row fits
+
+-- the row of a spelling of at most 2,000 bytes is one that a page may hold
+pub stored_of : (schema old_schema of_writer : List Column) (entry : List ℕ) → IsSpelling old_schema entry → length entry ≤ 2000 → schema ≡ old_schema → of_writer ≡ schema → IsStored schema (row_spelled of_writer entry)
+stored_of schema old_schema of_writer entry spelt short same same_writer =
+    let spelling : IsSpelling schema entry = subst (λ (s : List Column). IsSpelling s entry) (sym same) spelt in
+    subst (λ (s : List Column). IsStored schema (row_spelled s entry)) (sym same_writer) (record {
+      fits = spelling_fits schema entry spelling;
+      short = omega (arith, short, ap length (spelling_bytes schema entry spelling));
+    })
 
 -- what holds anyway holds where all went well
 pub anyway : {T E P : Type 0} (r : Result T E) → P → OnOk r P
@@ -235,6 +274,13 @@ whole_without writer building digests row_count open_file kept none open_is = re
   open_is = open_is;
   few = omega (arith, kept.few, digests_within writer building digests row_count kept);
 }
+
+-- its rows stand on the pages of the file
+pub rows_standing : (schema : List Column) (rows : List (List Value)) (building_pages digests pages : List (List ℕ)) {open_file : Option (List (List ℕ))} → IsWhole (record { schema = schema; rows = rows; pages = building_pages }) digests open_file → open_file ≡ Some pages → rows_on schema pages [] ≡ rows
+rows_standing schema rows building_pages digests pages {open_file} whole noted =
+    let other : open_file ≡ Some whole.written = whole.open_is in
+    let same : pages ≡ whole.written = cc in
+    ap (λ (p : List (List ℕ)). rows_on schema p []) same ∙ rows_whole written_version schema whole.written rows whole.heap
 
 -- the chunk of a builder whose pages are all written
 pub built_whole : {File : Type 0} (tells : Bool) (pages : File → List (List ℕ)) (building : Building) (digests : List (List ℕ)) (heap_pages row_count : ℕ) (file : File) (open_file : Option (List (List ℕ)))

@@ -1,3 +1,4 @@
 pub mod Packing
 pub mod Growing
 pub mod Keeping
+pub mod Standing

@@ -1,11 +1,13 @@
 // A chunk in the making.
 ghost use Rattle.std.specs.Prelude.{◌≡◌, ℕ, List, Some, Err, [], ◌∷◌, ◌++◌, ◌<◌, ◌≤◌, length, IfOk, IfErr, IsSome, OnOk, OnErr};
 ghost use Rattle.hv_row.specs.Row.{RowFits, row_bytes};
+ghost use Rattle.hv_row.specs.Spelling.{IsSpelling};
+ghost use Rattle.hv_row.specs.Packed.{row_spelled};
 ghost use Rattle.hv_dev.specs.Fault.{IsCaused};
 ghost use Rattle.hv_dev.specs.declared.sink.PutFault.TheVariants as unput;
 ghost use Rattle.hv_heap.specs.Writer.{page_now};
 ghost use Rattle.hv_view.specs.View.{IsBuilt};
-ghost use Rattle.hv_chunk.specs.Building.{Building, IsBuildFault};
+ghost use Rattle.hv_chunk.specs.Building.{Building, IsBuildFault, WritesOne};
 ghost use Rattle.hv_chunk.specs.Keeping.{IsKept, IsWhole};
 ghost use Rattle.hv_chunk.specs.declared.fault.BuildFault.TheVariants.{Memory, TooLong};
 
@@ -13,9 +15,10 @@ use crate::{BuildFault, Chunk};
 use hv_dev::{PageSink, Past, PutFault, as_page};
 use hv_heap::HeapWriter;
 use hv_page::{PAGE_BYTES, digest};
-use hv_row::{Digest, MAX_ROW_BYTES, Row, RowFault, Schema, row_length};
+use hv_row::{Digest, Row, RowFault, Schema, encode_onto};
 use std::alloc::{AllocError, Global};
 use std::marker::Model;
+use std::mem;
 
 /// Makes a chunk row by row: pages are written as they are full, over the sink's open file.
 #[derive(Drop)]
@@ -23,21 +26,23 @@ pub struct ChunkBuilder {
     writer: HeapWriter,
     digests: Vec<Digest>,
     row_count: u32,
-    rows: Past<Row>,
     pages: Past<[u8; PAGE_BYTES]>,
     schema: Schema,
+    // The bytes of one row; its room serves each.
+    entry: Vec<u8>,
 }
 
 impl Model for ChunkBuilder {
-    ghost use Rattle.hv_chunk.specs.Building.{Building};
+    ghost use Rattle.hv_chunk.specs.Building.{Building, rows_on};
 
     ghost Value = { Building };
 
-    ghost view = { λ b. record { schema = b.schema; rows = b.rows; pages = b.pages } };
+    // The rows are those that the pages spell.
+    ghost view = { λ b. record { schema = b.schema; rows = rows_on b.schema b.pages b.writer.entries; pages = b.pages } };
 
     ghost use Rattle.hv_chunk.specs.Keeping.{IsKept};
 
-    ghost invariant = { λ b. IsKept b.writer (record { schema = b.schema; rows = b.rows; pages = b.pages }) b.digests.items b.row_count };
+    ghost invariant = { λ b. IsKept b.writer (record { schema = b.schema; rows = rows_on b.schema b.pages b.writer.entries; pages = b.pages }) b.digests.items b.row_count };
 }
 
 impl ChunkBuilder {
@@ -49,9 +54,9 @@ impl ChunkBuilder {
             writer: HeapWriter::new(alloc, &schema)?,
             digests: Vec::new(alloc),
             row_count: 0,
-            rows: Past::new(),
             pages: Past::new(),
             schema,
+            entry: Vec::new(alloc),
         })
     }
 
@@ -77,20 +82,46 @@ impl ChunkBuilder {
         ensures abandoned { IfErr result (λ fault. ¬ (fault ≡ TooLong) → P.written port.new ≡ Some []) }
         ensures kept { P.reading port.new ≡ P.reading port.old }
     {
-        // Room for a digest first: nothing wants memory once the row is placed.
-        let Ok(()) = self.digests.reserve(1) else {
-            if row_length(row.as_slice(), self.schema.columns()) > MAX_ROW_BYTES as usize {
-                return Err(BuildFault::TooLong);
-            }
-            return Err(give_up(port, PutFault::Memory));
-        };
-        let placed = match self.writer.add(&row) {
-            Ok(placed) => placed,
+        let mut entry = mem::replace(&mut self.entry, Vec::new(alloc));
+        entry.clear();
+        match encode_onto(&mut entry, &row, &self.schema) {
+            Ok(()) => {}
             Err(RowFault::TooLong { .. }) => return Err(BuildFault::TooLong),
             Err(RowFault::Memory) => return Err(give_up(port, PutFault::Memory)),
+        }
+        self.push_spelled(alloc, entry.as_slice(), port)?;
+        self.entry = entry;
+        Ok(())
+    }
+
+    /// Puts the row that these bytes spell, at most 2,000 of them, behind the others, by the bytes as they are: as `push`
+    /// does, and never `TooLong`. After a fault the open file is abandoned, and the builder may only be dropped.
+    pub fn push_spelled<P: PageSink>(
+        &mut self,
+        alloc: Global,
+        entry: &[u8],
+        port: &mut P,
+    ) -> Result<(), BuildFault>
+        requires spelling { IsSpelling self.old.schema entry.now }
+        requires short { length entry.now ≤ 2000 }
+        requires few { length self.old.rows < 1000000 }
+        // The pages written since the last seal or abandon are this builder's.
+        requires mine { P.written port.old ≡ Some self.old.pages }
+        ensures pushed { OnOk result ((self.new.rows ≡ self.old.rows ++ row_spelled self.old.schema entry.now ∷ []) × (self.new.schema ≡ self.old.schema)) }
+        // A page that is written has the rows before this one.
+        ensures one_page { OnOk result (WritesOne self.old self.new) }
+        ensures mine_still { OnOk result (P.written port.new ≡ Some self.new.pages) }
+        ensures calm { OnOk result (P.write_faults port.new ≡ P.write_faults port.old) }
+        ensures cause { IfErr result (λ fault. IsBuildFault fault (length entry.now) (P.write_faults port.old) (P.write_faults port.new)) }
+        ensures abandoned { OnErr result (P.written port.new ≡ Some []) }
+        ensures kept { P.reading port.new ≡ P.reading port.old }
+    {
+        // Room for a digest first: nothing wants memory once the row is placed.
+        let Ok(()) = self.digests.reserve(1) else {
+            return Err(give_up(port, PutFault::Memory));
         };
+        let placed = self.writer.add_spelled(entry);
         self.row_count += 1;
-        self.rows.note(&row);
         if placed.full {
             let page = self.writer.done();
             self.digests.push_reserved(digest(page));
@@ -125,11 +156,11 @@ impl ChunkBuilder {
             writer,
             mut digests,
             row_count,
-            rows,
-            pages: _,
+            mut pages,
             schema,
+            entry: _,
         } = self;
-        put_last(port, alloc, &writer, &mut digests, row_count)?;
+        put_last(port, alloc, &writer, &mut digests, &mut pages, row_count)?;
         match port.seal(alloc) {
             Ok(file) => Ok(Chunk {
                 file,
@@ -137,7 +168,7 @@ impl ChunkBuilder {
                 heap_pages: digests.len() as u32,
                 digests,
                 row_count,
-                rows,
+                pages,
             }),
             Err(fault) => Err(give_up(port, fault)),
         }
@@ -160,17 +191,19 @@ fn put<P: PageSink>(port: &mut P, alloc: Global, page: &[u8]) -> Result<(), Buil
     }
 }
 
-// Puts the page that is being made and its digest behind the others, where there is a row.
+// Puts the page that is being made and its digest behind the others, and notes it, where there is a row.
 fn put_last<P: PageSink>(
     port: &mut P,
     alloc: Global,
     writer: &HeapWriter,
     digests: &mut Vec<Digest>,
+    pages: &mut Past<[u8; PAGE_BYTES]>,
     row_count: u32,
 ) -> Result<(), BuildFault>
     requires page { length (page_now writer.now) ≡ 4096 }
     requires open { IsSome (P.written port.old) }
     ensures whole { OnOk result ((building : Building) → IsKept writer.now building digests.old.items row_count → P.written port.old ≡ Some building.pages → IsWhole building digests.new.items (P.written port.new)) }
+    ensures noted { OnOk result (P.written port.old ≡ Some pages.old → P.written port.new ≡ Some pages.new) }
     ensures abandoned { OnErr result (P.written port.new ≡ Some []) }
     ensures calm { OnOk result (P.write_faults port.new ≡ P.write_faults port.old) }
     ensures cause { IfErr result (λ fault. IsBuildFault fault 0 (P.write_faults port.old) (P.write_faults port.new)) }
@@ -183,6 +216,7 @@ fn put_last<P: PageSink>(
     let Ok(()) = digests.push(digest(page)) else {
         return Err(give_up(port, PutFault::Memory));
     };
+    pages.note(as_page(page));
     put(port, alloc, page)
 }
 

@@ -2,7 +2,8 @@
 ghost use Rattle.std.specs.Prelude.{◌≡◌, ◌≤◌, length};
 
 use hv_dev::{PageFile, Past};
-use hv_row::{Digest, Row, Schema};
+use hv_page::PAGE_BYTES;
+use hv_row::{Digest, Schema};
 use hv_view::ChunkView;
 use std::alloc::Global;
 use std::marker::Model;
@@ -16,18 +17,20 @@ pub struct Chunk<F> {
     pub(crate) digests: Vec<Digest>,
     pub(crate) heap_pages: u32,
     pub(crate) row_count: u32,
-    pub(crate) rows: Past<Row>,
+    // Its pages, of which its rows are read by clauses alone.
+    pub(crate) pages: Past<[u8; PAGE_BYTES]>,
 }
 
 impl<F> Model for Chunk<F> {
-    ghost use Rattle.std.specs.Prelude.{◌≡◌, length};
+    ghost use Rattle.std.specs.Prelude.{◌≡◌, [], length};
     ghost use Rattle.std.specs.Arc.{arc_value};
     ghost use Rattle.hv_page.specs.Layout.{written_version};
     ghost use Rattle.hv_view.specs.View.{Viewed};
+    ghost use Rattle.hv_chunk.specs.Building.{rows_on};
 
     ghost Value = { Viewed F };
 
-    ghost view = { λ c. record { version = written_version; rows = c.rows; schema = c.schema; digests = c.digests.items; heap_pages = c.heap_pages; row_count = c.row_count; file = arc_value c.file } };
+    ghost view = { λ c. record { version = written_version; rows = rows_on c.schema c.pages []; schema = c.schema; digests = c.digests.items; heap_pages = c.heap_pages; row_count = c.row_count; file = arc_value c.file } };
 
     ghost invariant = { λ c. c.heap_pages ≡ length c.digests.items };
 }

@@ -5,7 +5,9 @@
 mod builder;
 mod chunk;
 mod fault;
+mod turn;
 
 pub use builder::ChunkBuilder;
 pub use chunk::Chunk;
 pub use fault::BuildFault;
+pub use turn::JobTurn;

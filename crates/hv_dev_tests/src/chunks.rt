@@ -10,7 +10,7 @@ use crate::reads::read_run;
 use hv_chunk::{BuildFault, Chunk, ChunkBuilder};
 use hv_dev::{CleanDevice, Device, FailKind, Order, PageSink, Port};
 use hv_page::digest;
-use hv_row::{Bytes, ColType, Column, Columns, Copied, Row, Schema, Value, row_fits};
+use hv_row::{Bytes, ColType, Column, Columns, Copied, Row, Schema, Value, check, row_fits};
 use hv_view::ChunkView;
 use std::alloc::Global;
 use std::fs;
@@ -260,4 +260,42 @@ fn goes_on_after_a_long_row(rt: HostRuntime) {
     assert!(rt; push_texts(&rt, alloc, &mut port, &mut builder, &schema, 249));
     let chunk = builder.finish(alloc, &mut port).expect(&rt, "a chunk");
     assert!(rt; chunk.row_count() == 1 && chunk.heap_pages() == 1);
+}
+
+// Pushes so many rows of one number, from 0 on, by their bytes.
+fn push_bytes<P: PageSink>(
+    rt: &impl Abort,
+    alloc: Global,
+    port: &mut P,
+    builder: &mut ChunkBuilder,
+    schema: &Schema,
+    count: u32,
+)
+    requires schema { builder.old.schema ≡ schema.now }
+    requires none { builder.old.rows ≡ [] }
+    requires few { count ≤ 1000000 }
+    requires mine { P.written port.old ≡ Some builder.old.pages }
+    ensures mine { P.written port.new ≡ Some builder.new.pages }
+    ensures kept { P.reading port.new ≡ P.reading port.old }
+{
+    for number in 0..count {
+        let bytes = i64::from(number).to_be_bytes();
+        assert!(rt; check(&bytes, schema).is_ok());
+        builder
+            .push_spelled(alloc, &bytes, port)
+            .expect(rt, "room for a row");
+    }
+}
+
+#[test]
+fn packs_rows_by_their_bytes(rt: HostRuntime) {
+    let alloc = rt.alloc();
+    let schema = schema_of(&rt, alloc, ColType::Int, 1);
+    let mut device = CleanDevice::new();
+    let mut port = device.port(alloc, Order::Fifo, 1).expect(&rt, "a port");
+    let mut builder = builder_of(&rt, alloc, &schema);
+    push_bytes(&rt, alloc, &mut port, &mut builder, &schema, 409);
+    assert!(rt; builder.pages_written() == 1);
+    let chunk = builder.finish(alloc, &mut port).expect(&rt, "a chunk");
+    assert!(rt; chunk.heap_pages() == 2 && is_read_back(&rt, alloc, &mut port, &chunk, 409));
 }

@@ -4,3 +4,4 @@ pub mod SoFar
 pub mod TokenLaws
 pub mod Whole
 pub mod QueryLaws
+pub mod Mapped

@@ -1,8 +1,8 @@
 -- A premise from which the premise of known content follows may stand in its place.
 use Rattle.std.specs.Prelude.{ℕ, List}
+use Rattle.hv_model.specs.Database.{RowDatabase}
 use Rattle.hv_model.specs.declared.script.Statement.{Statement}
 use Rattle.hv_model.specs.declared.script.Script.{Script}
-use Rattle.hv_model.specs.declared.catalogue.Database.{Database}
 use Rattle.hv_model.specs.declared.catalogue.Entry.{Entry}
 use Rattle.hv_model.specs.declared.reply.Reply.{Reply}
 use Rattle.hv_model.specs.declared.reply.Reply.TheVariants.{Done, Rows, Refused, Failed}
@@ -12,7 +12,7 @@ use Rattle.hv_model.specs.Legal.{Answered, IsRefusedFor, Legal}
 use Rattle.hv_model.specs.OneSession.{Settles, LegalSoFar, Kept}
 
 -- an answer
-pub answered_under : (k j : Type 0) → (k → j) → (x : Statement) (s : Database) (max : ℕ) (rows : List (List Cell)) → Answered x s max j rows → Answered x s max k rows
+pub answered_under : (k j : Type 0) → (k → j) → (x : Statement) (s : RowDatabase) (max : ℕ) (rows : List (List Cell)) → Answered x s max j rows → Answered x s max k rows
 answered_under k j follows x s max rows answered = record {
   query = answered.query;
   is = answered.is;
@@ -22,11 +22,11 @@ answered_under k j follows x s max rows answered = record {
 }
 
 -- a refusal
-pub refused_under : (k j : Type 0) → (k → j) → (x : Statement) (s : Database) (max : ℕ) (cause : Refusal) → IsRefusedFor x s max j cause → IsRefusedFor x s max k cause
+pub refused_under : (k j : Type 0) → (k → j) → (x : Statement) (s : RowDatabase) (max : ℕ) (cause : Refusal) → IsRefusedFor x s max j cause → IsRefusedFor x s max k cause
 refused_under k j follows x s max cause refused = record { told = (λ known. refused.told (follows known)); cause_is = refused.cause_is }
 
 -- what the answer to one statement owes
-pub settles_under : (k j : Type 0) → (k → j) → (x : Statement) (max : ℕ) (before : Database) (history : List Entry) (r : Reply) (new : Database) (longer : List Entry)
+pub settles_under : (k j : Type 0) → (k → j) → (x : Statement) (max : ℕ) (before : RowDatabase) (history : List Entry) (r : Reply) (new : RowDatabase) (longer : List Entry)
     → Settles x max j before history r new longer → Settles x max k before history r new longer
 settles_under k j follows x max before history (Done at what) new longer settles = settles
 settles_under k j follows x max before history (Rows at rows) new longer settles = (settles.0, answered_under k j follows x before max rows settles.1)
@@ -49,7 +49,7 @@ so_far_under k j follows s xs max history rs legal = record {
 }
 
 -- what holds between two statements
-pub kept_under : (k j : Type 0) → (k → j) → (s : Script) (xs : List Statement) (max : ℕ) (now : Database) (history : List Entry) (rs : List Reply)
+pub kept_under : (k j : Type 0) → (k → j) → (s : Script) (xs : List Statement) (max : ℕ) (now : RowDatabase) (history : List Entry) (rs : List Reply)
     → Kept s xs max j now history rs → Kept s xs max k now history rs
 kept_under k j follows s xs max now history rs kept = record {
   database = kept.database;

@@ -10,8 +10,6 @@ use Rattle.std.proofs.lemmas.List.Sums.{fold-append}
 use Rattle.hv_row.specs.Schema.{same_name}
 use Rattle.hv_model.specs.declared.script.Statement.{Statement}
 use Rattle.hv_model.specs.declared.script.Script.{Script}
-use Rattle.hv_model.specs.declared.catalogue.Database.{Database}
-use Rattle.hv_model.specs.declared.catalogue.Command.{Command}
 use Rattle.hv_model.specs.declared.catalogue.Detail.{Detail}
 use Rattle.hv_model.specs.declared.catalogue.Entry.{Entry}
 use Rattle.hv_model.specs.declared.reply.Refusal.{Refusal}
@@ -20,7 +18,7 @@ use Rattle.hv_model.specs.declared.query.Cell.{Cell}
 use Rattle.hv_model.specs.declared.reply.Reply.{Reply}
 use Rattle.hv_model.specs.declared.reply.Reply.TheVariants.{Done, Rows, Refused, Failed}
 use Rattle.hv_model.specs.Parsed.{tree_of}
-use Rattle.hv_model.specs.Database.{step, empty_database}
+use Rattle.hv_model.specs.Database.{RowDatabase, RowCommand, step, empty_database}
 use Rattle.hv_model.specs.Command.{statements, statement_named, is_named, after_entry, command_at, database_after, entry_at}
 use Rattle.hv_model.specs.Legal.{number_of, is_done, Names, Accepted, Answered, IsRefusedFor, FollowsNumber, may_fail}
 use Rattle.hv_model.specs.OneSession.{IsOneSession, Commits, Stays, Settles, LegalSoFar, Kept}
@@ -67,13 +65,13 @@ database_after-kept s history e n le = rw (take-append-le n history (e ∷ []) l
 
 -- the database behind one more entry
 pub database_after-more : (s : Script) (history : List Entry) (e : Entry) → database_after s (history ++ e ∷ []) (length (history ++ e ∷ []))
-    ≡ after_entry s (database_after s history (length history)) e
+    ≡ after_entry (λ rows. rows) s (database_after s history (length history)) e
 database_after-more s history e =
-    rw (take-length (history ++ e ∷ []), take-length history, fold-append (after_entry s) empty_database history (e ∷ [])) refl
+    rw (take-length (history ++ e ∷ []), take-length history, fold-append (after_entry (λ rows. rows) s) empty_database history (e ∷ [])) refl
 
 -- an entry whose statement has this command, which steps
-pub after_entry-steps : (s : Script) (xs : List Statement) → IsOneSession s xs → (before new : Database) (e : Entry) (k : ℕ) (x : Statement) (c : Command)
-    → slice_get xs k ≡ Some x → Names e x → command_at x before ≡ Some c → step before c ≡ Ok new → after_entry s before e ≡ new
+pub after_entry-steps : (s : Script) (xs : List Statement) → IsOneSession s xs → (before new : RowDatabase) (e : Entry) (k : ℕ) (x : Statement) (c : RowCommand)
+    → slice_get xs k ≡ Some x → Names e x → command_at x before ≡ Ok c → step before c ≡ Ok new → after_entry (λ rows. rows) s before e ≡ new
 after_entry-steps s xs one before new e k x c stands names command steps =
     rw (statement_named-one s xs one e k x stands names) (rw command (rw steps refl))
 
@@ -186,7 +184,7 @@ same_named s xs one e n k x y at_n at_k names_x names_y =
     same_at xs n k x y at_n at_k (omega arith)
 
 -- a reply Done, whose command is the history's new entry
-commits_more : (s : Script) (xs : List Statement) (max : ℕ) (known : Type 0) → IsOneSession s xs → (before new : Database) (history longer : List Entry) (rs : List Reply) (x : Statement)
+commits_more : (s : Script) (xs : List Statement) (max : ℕ) (known : Type 0) → IsOneSession s xs → (before new : RowDatabase) (history longer : List Entry) (rs : List Reply) (x : Statement)
     (at : ℕ) (what : Detail)
     → before ≡ database_after s history (length history) → LegalSoFar s xs max known history rs → slice_get xs (length rs) ≡ Some x
     → Commits x before history at what new longer → LegalSoFar s xs max known longer (rs ++ Done at what ∷ [])
@@ -261,12 +259,12 @@ commits_more s xs max known one before new history longer rs x at what is_before
     }
 
 -- the database at the number that a reply without a change tells
-at_present : (s : Script) (xs : List Statement) (max : ℕ) (known : Type 0) (before new : Database) (history longer : List Entry) (rs : List Reply) (r : Reply)
+at_present : (s : Script) (xs : List Statement) (max : ℕ) (known : Type 0) (before new : RowDatabase) (history longer : List Entry) (rs : List Reply) (r : Reply)
     → Kept s xs max known before history rs → Stays before history (number_of r) new longer → (n : ℕ) → number_of r ≡ n → database_after s history n ≡ before
 at_present s xs max known before new history longer rs r kept stays n e = rw (sym e, stays.at_is) (sym kept.database)
 
 -- one more statement answered without a change
-stays_kept : (s : Script) (xs : List Statement) (max : ℕ) (known : Type 0) (before new : Database) (history longer : List Entry) (rs : List Reply) (x : Statement) (r : Reply)
+stays_kept : (s : Script) (xs : List Statement) (max : ℕ) (known : Type 0) (before new : RowDatabase) (history longer : List Entry) (rs : List Reply) (x : Statement) (r : Reply)
     → Kept s xs max known before history rs → slice_get xs (length rs) ≡ Some x → is_done r ≡ false → Stays before history (number_of r) new longer
     → ((n : ℕ) (rows : List (List Cell)) → r ≡ Rows n rows → Answered x before max known rows)
     → ((n : ℕ) (cause : Refusal) → r ≡ Refused n cause → IsRefusedFor x before max known cause)
@@ -283,7 +281,7 @@ stays_kept s xs max known before new history longer rs x r kept stands not_done 
     }
 
 -- one more statement answered as it has to be
-pub kept_next : (s : Script) (xs : List Statement) (max : ℕ) (known : Type 0) (before new : Database) (history longer : List Entry) (rs : List Reply) (x : Statement) (r : Reply)
+pub kept_next : (s : Script) (xs : List Statement) (max : ℕ) (known : Type 0) (before new : RowDatabase) (history longer : List Entry) (rs : List Reply) (x : Statement) (r : Reply)
     → IsOneSession s xs → Kept s xs max known before history rs → slice_get xs (length rs) ≡ Some x → Settles x max known before history r new longer
     → Kept s xs max known new longer (rs ++ r ∷ [])
 kept_next s xs max known before new history longer rs x (Done at what) one kept stands settles = record {

@@ -5,9 +5,9 @@ use Rattle.std.specs.List.{slice_get}
 use Rattle.std.proofs.lemmas.Option.{slice_get_within}
 use Rattle.std.proofs.lemmas.List.{append-nil}
 use Rattle.hv_row.specs.Schema.{same_name}
+use Rattle.hv_model.specs.Database.{RowDatabase}
 use Rattle.hv_model.specs.declared.script.Statement.{Statement}
 use Rattle.hv_model.specs.declared.script.Script.{Script}
-use Rattle.hv_model.specs.declared.catalogue.Database.{Database}
 use Rattle.hv_model.specs.declared.catalogue.Entry.{Entry}
 use Rattle.hv_model.specs.declared.reply.Reply.{Reply}
 use Rattle.hv_model.specs.declared.reply.Reply.TheVariants.{Done, Rows, Refused, Failed}
@@ -52,7 +52,7 @@ count_main (x ∷ xs) a of_main =
     = count_main xs (a + 1) (λ k y at. of_main (suc k) y at) in omega arith)
 
 -- the Done replies of the one phase are as many as the entries
-pub done_one : (s : Script) (xs : List Statement) (max : ℕ) (known : Type 0) (now : Database) (history : List Entry) (rs : List Reply)
+pub done_one : (s : Script) (xs : List Statement) (max : ℕ) (known : Type 0) (now : RowDatabase) (history : List Entry) (rs : List Reply)
     → IsOneSession s xs → Kept s xs max known now history rs → length rs ≡ length xs → done_before s (rs ∷ []) (0 + 1) ≡ length history
 done_one s xs max known now history rs one kept all =
     rw (one.phases, append-nil xs, sym kept.legal.counted)
@@ -83,7 +83,7 @@ replied : (s : Script) (xs : List Statement) (rs : List Reply) → IsOneSession 
 replied s xs rs one k x r at reply = sym (reply_to-one s xs rs one k x at) ∙ reply
 
 -- all statements answered
-pub legal_whole : (s : Script) (xs : List Statement) (max : ℕ) (known : Type 0) (now : Database) (history : List Entry) (rs : List Reply)
+pub legal_whole : (s : Script) (xs : List Statement) (max : ℕ) (known : Type 0) (now : RowDatabase) (history : List Entry) (rs : List Reply)
     → IsOneSession s xs → Kept s xs max known now history rs → length rs ≡ length xs → Legal s max known history (rs ∷ [])
 legal_whole s xs max known now history rs one kept all =
     let legal : LegalSoFar s xs max known history rs = kept.legal in record {

@@ -28,24 +28,11 @@ use Rattle.hv_model.specs.declared.query.SortKey.{SortKey}
 use Rattle.hv_model.specs.declared.query.BoundQuery.{BoundQuery}
 use Rattle.hv_model.specs.declared.reply.Refusal.{Refusal}
 use Rattle.hv_model.specs.declared.reply.Refusal.TheVariants.{TypeMismatch, NotGrouped, NoOutput}
+use Rattle.std.specs.Result.{result_err}
+use Rattle.hv_model.specs.Causes.{first_of, unless}
 use Rattle.hv_model.specs.Sql.{is_aggregate}
 use Rattle.hv_model.specs.Scope.{resolved, column_at, all_columns}
 use Rattle.hv_model.specs.Fits.{kind_of, operand_kind, same_kind, is_int, same_column}
-
--- the first refusal of a list of points, each of which may stand
-abbrev pub first_of : List (Option Refusal) → Option Refusal
-first_of [] = None
-first_of (point ∷ points) = option_or point (first_of points)
-
--- a refusal, where there is one
-abbrev pub refusal_in : {A : Type 0} → Result A Refusal → Option Refusal
-refusal_in (Ok a) = None
-refusal_in (Err r) = Some r
-
--- a refusal where a test fails
-abbrev pub unless : Bool → Refusal → Option Refusal
-unless true r = None
-unless false r = Some r
 
 -- the schemas of tables
 abbrev pub schemas_of : List TableHead → List (List Column)
@@ -135,7 +122,7 @@ bound_query x heads =
 
 -- a reference
 abbrev pub ref_refusal : List PlaceAst → List TableHead → RefAst → Option Refusal
-ref_refusal places heads r = refusal_in (resolved places heads r)
+ref_refusal places heads r = result_err (resolved places heads r)
 
 -- an item: the sum of texts is refused at its reference
 abbrev pub item_refusal : List PlaceAst → List TableHead → ItemAst → Option Refusal

@@ -7,8 +7,6 @@ use Rattle.hv_model.specs.declared.tree.Ast.{Ast}
 use Rattle.hv_model.specs.declared.tree.Ast.TheVariants as ast
 use Rattle.hv_model.specs.declared.script.Statement.{Statement}
 use Rattle.hv_model.specs.declared.script.Script.{Script}
-use Rattle.hv_model.specs.declared.catalogue.Database.{Database}
-use Rattle.hv_model.specs.declared.catalogue.Command.{Command}
 use Rattle.hv_model.specs.declared.catalogue.Detail.{Detail}
 use Rattle.hv_model.specs.declared.catalogue.Entry.{Entry}
 use Rattle.hv_model.specs.declared.reply.Reply.{Reply}
@@ -20,7 +18,7 @@ use Rattle.hv_model.specs.declared.reply.Failure.TheVariants as failure
 use Rattle.hv_model.specs.declared.query.BoundQuery.{BoundQuery}
 use Rattle.hv_model.specs.declared.query.Cell.{Cell}
 use Rattle.hv_model.specs.Parsed.{tree_of}
-use Rattle.hv_model.specs.Database.{step}
+use Rattle.hv_model.specs.Database.{RowDatabase, RowCommand, step}
 use Rattle.hv_model.specs.Answer.{IsAnswer, is_empty_aggregate}
 use Rattle.hv_model.specs.Command.{statements, command_at, bound, early_refusal, refusal, detail_of, database_after, entry_at}
 
@@ -87,10 +85,10 @@ DoneAreEntries s history replies =
     → (e : Entry) × (entry_at history n ≡ Some e) × Names e x × (e.what ≡ what)
 
 -- the command of a statement is accepted by a database, and this is what is told of it
-pub record Accepted (x : Statement) (before : Database) (what : Detail) : Type 0 where
-  pub command : Command
-  pub after : Database
-  pub is : command_at x before ≡ Some command
+pub record Accepted (x : Statement) (before : RowDatabase) (what : Detail) : Type 0 where
+  pub command : RowCommand
+  pub after : RowDatabase
+  pub is : command_at x before ≡ Ok command
   pub steps : step before command ≡ Ok after
   pub told : what ≡ detail_of before command
 
@@ -120,7 +118,7 @@ WithinPhases s replies upper =
     → reply_to s replies x ≡ Some r → (done_before s replies p ≤ number_of r) × (number_of r ≤ upper p)
 
 -- the statement has a query at a database; where the content of the files is known nothing refuses it, and the rows are its answer
-pub record Answered (x : Statement) (s : Database) (max : ℕ) (known : Type 0) (rows : List (List Cell)) : Type 0 where
+pub record Answered (x : Statement) (s : RowDatabase) (max : ℕ) (known : Type 0) (rows : List (List Cell)) : Type 0 where
   pub query : BoundQuery
   pub is : bound x s ≡ Some query
   pub early : early_refusal x s ≡ None
@@ -134,14 +132,14 @@ RowsAreAnswers s max known history replies =
     → Answered x (database_after s history n) max known rows
 
 -- a refusal for want of combinations, of a query that is refused where it has none
-pub record IsOverNone (x : Statement) (s : Database) (cause : Refusal) : Type 0 where
+pub record IsOverNone (x : Statement) (s : RowDatabase) (cause : Refusal) : Type 0 where
   pub is : cause ≡ EmptyAggregate
   pub query : BoundQuery
   pub means : bound x s ≡ Some query
   pub over_none : is_empty_aggregate query [] ≡ true
 
 -- a refusal is the statement's at a database, where the content of the files is known; where it is not, so is each but one for want of combinations
-pub record IsRefusedFor (x : Statement) (s : Database) (max : ℕ) (known : Type 0) (cause : Refusal) : Type 0 where
+pub record IsRefusedFor (x : Statement) (s : RowDatabase) (max : ℕ) (known : Type 0) (cause : Refusal) : Type 0 where
   pub told : known → refusal x s max ≡ Some cause
   pub cause_is : (early_refusal x s ≡ Some cause) ⊎ IsOverNone x s cause
 

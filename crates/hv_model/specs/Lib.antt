@@ -1,3 +1,4 @@
+pub mod Causes
 pub mod Token
 pub mod Lexemes
 pub mod Lexed

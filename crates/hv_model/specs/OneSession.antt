@@ -2,8 +2,6 @@
 use Rattle.std.specs.Prelude.{◌≡◌, ℕ, ◌+◌, ◌-◌, ◌<◌, ◌≤◌, true, List, [], ◌∷◌, ◌++◌, length, Some, Ok, codes, count_by, slice_get}
 use Rattle.hv_model.specs.declared.script.Statement.{Statement}
 use Rattle.hv_model.specs.declared.script.Script.{Script}
-use Rattle.hv_model.specs.declared.catalogue.Database.{Database}
-use Rattle.hv_model.specs.declared.catalogue.Command.{Command}
 use Rattle.hv_model.specs.declared.catalogue.Detail.{Detail}
 use Rattle.hv_model.specs.declared.catalogue.Entry.{Entry}
 use Rattle.hv_model.specs.declared.reply.Reply.{Reply}
@@ -12,7 +10,7 @@ use Rattle.hv_model.specs.declared.reply.Refusal.{Refusal}
 use Rattle.hv_model.specs.declared.reply.Failure.{Failure}
 use Rattle.hv_model.specs.declared.query.Cell.{Cell}
 use Rattle.hv_model.specs.Parsed.{tree_of}
-use Rattle.hv_model.specs.Database.{step}
+use Rattle.hv_model.specs.Database.{RowDatabase, RowCommand, step}
 use Rattle.hv_model.specs.Command.{command_at, detail_of, database_after, entry_at}
 use Rattle.hv_model.specs.Legal.{number_of, is_done, Names, Accepted, Answered, IsRefusedFor, FollowsNumber, may_fail}
 
@@ -24,25 +22,25 @@ pub record IsOneSession (s : Script) (xs : List Statement) : Type 0 where
   pub numbers : (k : ℕ) (x : Statement) → slice_get xs k ≡ Some x → x.number ≡ k + 1
 
 -- the command of a statement was accepted, and its entry is the last of the longer history
-pub record Commits (x : Statement) (before : Database) (history : List Entry) (at : ℕ) (what : Detail) (new : Database) (longer : List Entry) : Type 0 where
+pub record Commits (x : Statement) (before : RowDatabase) (history : List Entry) (at : ℕ) (what : Detail) (new : RowDatabase) (longer : List Entry) : Type 0 where
   pub entry : Entry
   pub names : Names entry x
   pub told : entry.what ≡ what
   pub is_longer : longer ≡ history ++ entry ∷ []
   pub at_is : at ≡ length history + 1
-  pub command : Command
-  pub is : command_at x before ≡ Some command
+  pub command : RowCommand
+  pub is : command_at x before ≡ Ok command
   pub steps : step before command ≡ Ok new
   pub detail : what ≡ detail_of before command
 
 -- nothing has changed, and the reply tells the present length
-pub record Stays (before : Database) (history : List Entry) (at : ℕ) (new : Database) (longer : List Entry) : Type 0 where
+pub record Stays (before : RowDatabase) (history : List Entry) (at : ℕ) (new : RowDatabase) (longer : List Entry) : Type 0 where
   pub same_database : new ≡ before
   pub same_history : longer ≡ history
   pub at_is : at ≡ length history
 
 -- what the answer to one statement owes: its reply, the database behind it and the history behind it
-abbrev pub Settles : Statement → ℕ → Type 0 → Database → List Entry → Reply → Database → List Entry → Type 0
+abbrev pub Settles : Statement → ℕ → Type 0 → RowDatabase → List Entry → Reply → RowDatabase → List Entry → Type 0
 Settles x max known before history (Done at what) new longer = Commits x before history at what new longer
 Settles x max known before history (Rows at rows) new longer = Stays before history at new longer × Answered x before max known rows
 Settles x max known before history (Refused at cause) new longer = Stays before history at new longer × IsRefusedFor x before max known cause
@@ -80,7 +78,7 @@ pub record LegalSoFar (s : Script) (xs : List Statement) (max : ℕ) (known : Ty
   pub counted : count_by is_done replies ≡ length history
 
 -- what holds between two statements
-pub record Kept (s : Script) (xs : List Statement) (max : ℕ) (known : Type 0) (now : Database) (history : List Entry) (replies : List Reply) : Type 0 where
+pub record Kept (s : Script) (xs : List Statement) (max : ℕ) (known : Type 0) (now : RowDatabase) (history : List Entry) (replies : List Reply) : Type 0 where
   pub database : now ≡ database_after s history (length history)
   pub short : length replies ≤ length xs
   pub legal : LegalSoFar s xs max known history replies

@@ -20,6 +20,7 @@ abbrev pub detail_text : Detail → List ℕ
 detail_text (detail.Create table) = codes "create " ++ table
 detail_text (detail.Import table chunk rows) =
     codes "import " ++ table ++ codes " chunk " ++ decimal chunk ++ codes " rows " ++ decimal rows
+detail_text (detail.Purge table chunk) = codes "purge " ++ table ++ codes " chunk " ++ decimal chunk
 
 -- a byte of a text, a quote written twice
 abbrev pub quoted_byte : ℕ → List ℕ
@@ -38,7 +39,16 @@ row_line cells = join_by cell_text (codes "|") cells ++ codes "\n"
 abbrev pub refusal_text : Refusal → List ℕ
 refusal_text refused.Unbuilt = codes "unbuilt"
 refusal_text (refused.Syntax byte) = codes "syntax " ++ decimal byte
+refusal_text refused.TooManyColumns = codes "too-many-columns"
+refusal_text (refused.DuplicateColumn column) = codes "duplicate-column " ++ decimal column
+refusal_text refused.TableExists = codes "table-exists"
+refusal_text refused.TooManyTables = codes "too-many-tables"
 refusal_text (refused.NoTable byte) = codes "no-table " ++ decimal byte
+refusal_text (refused.BadRow row column) = codes "bad-row " ++ decimal row ++ codes " " ++ decimal column
+refusal_text (refused.LongRow row) = codes "long-row " ++ decimal row
+refusal_text refused.TooManyChunks = codes "too-many-chunks"
+refusal_text (refused.NoChunk chunk) = codes "no-chunk " ++ decimal chunk
+refusal_text refused.HistoryFull = codes "history-full"
 refusal_text (refused.TooManyPlaces byte) = codes "too-many-places " ++ decimal byte
 refusal_text (refused.DuplicateAlias byte) = codes "duplicate-alias " ++ decimal byte
 refusal_text (refused.NoColumn byte) = codes "no-column " ++ decimal byte

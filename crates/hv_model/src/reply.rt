@@ -13,8 +13,28 @@ pub enum Refusal {
     Unbuilt,
     /// The token at this byte, or the text's end, is the first with which no statement goes on.
     Syntax { byte: u32 },
+    /// More than 32 columns.
+    TooManyColumns,
+    /// A column of a name that stood before, by its number, from 1.
+    DuplicateColumn { column: u8 },
+    /// A table of this name stands.
+    TableExists,
+    /// 64 tables stand.
+    TooManyTables,
     /// A table that doesn't stand, where its name begins.
     NoTable { byte: u32 },
+    /// The first record of an import that is no row of the table's schema, by its number, from 1; and the number of the first column, from 1,
+    /// whose field is no value of it. The column is 0 where the record has another number of fields than the schema has columns, or is one
+    /// past the most that an import has.
+    BadRow { row: u32, column: u8 },
+    /// The first record of an import that is no row of the table's schema: its row bytes are more than 2,000.
+    LongRow { row: u32 },
+    /// The table has 1,024 chunks.
+    TooManyChunks,
+    /// The table has no chunk of this number.
+    NoChunk { chunk: u64 },
+    /// The history has 65,536 entries.
+    HistoryFull,
     /// A fifth FROM place, where its table's name begins.
     TooManyPlaces { byte: u32 },
     /// A second FROM place of this alias, where the alias begins.

@@ -4,7 +4,7 @@ ghost use Rattle.std.specs.Prelude.{◌≡◌, ◌+◌, ◌≤◌, IfOk};
 use crate::made::{ONE_ROW, page_of, schema_of};
 use hv_heap::{HeapWriter, Placed, row_at};
 use hv_page::{PAGE_BYTES, RowId, parse_heap};
-use hv_row::{Bytes, Row, RowFault, Schema, Value, row_fits};
+use hv_row::{Bytes, Row, RowFault, Schema, Value, check, row_fits};
 use std::alloc::Global;
 use std::test::Fail;
 
@@ -74,6 +74,17 @@ fn begins_a_page_with_the_first_row(rt: HostRuntime) -> Result<(), Fail> {
     let schema = schema_of(rt.alloc(), "i")?;
     let mut writer = HeapWriter::new(rt.alloc(), &schema)?;
     add_ones(rt.alloc(), &mut writer, &schema, 1)?;
+    assert!(rt; writer.page() == page_of(&ONE_ROW).as_slice());
+    Ok(())
+}
+
+#[test]
+fn adds_a_row_by_its_bytes(rt: HostRuntime) -> Result<(), Fail> {
+    let schema = schema_of(rt.alloc(), "i")?;
+    let mut writer = HeapWriter::new(rt.alloc(), &schema)?;
+    let one = 1i64.to_be_bytes();
+    assert!(rt; check(&one, &schema).is_ok());
+    assert!(rt; Some(writer.add_spelled(&one)) == placed(0, 0, false));
     assert!(rt; writer.page() == page_of(&ONE_ROW).as_slice());
     Ok(())
 }

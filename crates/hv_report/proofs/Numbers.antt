@@ -10,14 +10,18 @@ use Rattle.std.proofs.lemmas.Bool.Decides.{nat_tests}
 use Rattle.std.proofs.lemmas.Fmt.{decimal_is_IsNumeral_wide}
 use Rattle.std.proofs.lemmas.Str.Parse.{digit_from_value}
 use Rattle.hv_model.specs.Token.{is_digit}
-use Rattle.hv_report.specs.Law.{Is32, Is64}
+use Rattle.hv_report.specs.Law.{Is8, Is32, Is64}
 use Rattle.hv_report.proofs.Decoding.{Decodes, Starts, Stops, run_told, starts_append, starts_or_stops}
 
 -- what `decimal` writes in full
 abbrev pub IsWide : ℕ → Type 0
 IsWide n = n < 10 ^ 64
 
--- a number of 32 bits is written in full
+-- a number of 8 bits is written in full
+pub wide_8 : (n : ℕ) → Is8 n → IsWide n
+wide_8 n h = omega arith
+
+-- so is a number of 32 bits
 pub wide_32 : (n : ℕ) → Is32 n → IsWide n
 wide_32 n h = omega arith
 

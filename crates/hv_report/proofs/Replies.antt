@@ -18,7 +18,7 @@ use Rattle.hv_model.specs.declared.reply.Failure.TheVariants.{Read, Write, Damag
 use Rattle.hv_model.specs.declared.reply.Why.{Why}
 use Rattle.hv_report.specs.Law.{DetailInRange, DetailNamed, FailureInRange, Is32, RefusalInRange, ReplyInRange, ReplyNamed, SameReply}
 use Rattle.hv_report.proofs.Decoding.{Anything, Decodes, IsMany, Starts, Stops, differ, run_told, starts_append, stops_weaker, until_end}
-use Rattle.hv_report.proofs.Numbers.{IsWide, decimal_starts, decimal_told, wide_32, wide_64}
+use Rattle.hv_report.proofs.Numbers.{IsWide, decimal_starts, decimal_told, wide_8, wide_32, wide_64}
 use Rattle.hv_report.proofs.Cells.{rows_told}
 
 -- a name before a byte that none has
@@ -29,11 +29,17 @@ name_told a b x y good good' stops stops' e = run_told is_name_byte a b x y good
 pub number_told : Decodes Is32 decimal (Stops is_digit) (λ a b. a ≡ b)
 number_told a b x y good good' stops stops' e = decimal_told a b x y (wide_32 a good) (wide_32 b good') stops stops' e
 
--- the same behind a word
+-- a number behind a word
+wide_behind : (word : List ℕ) (a b : ℕ) (x y : List ℕ) → IsWide a → IsWide b → Stops is_digit x → Stops is_digit y
+    → word ++ (decimal a ++ x) ≡ word ++ (decimal b ++ y) → (a ≡ b) × (x ≡ y)
+wide_behind word a b x y good good' stops stops' e =
+    decimal_told a b x y good good' stops stops' (append_cancel_left word (decimal a ++ x) (decimal b ++ y) e)
+
+-- a number of 32 bits behind a word
 behind_word : (word : List ℕ) (a b : ℕ) (x y : List ℕ) → Is32 a → Is32 b → Stops is_digit x → Stops is_digit y
     → word ++ (decimal a ++ x) ≡ word ++ (decimal b ++ y) → (a ≡ b) × (x ≡ y)
 behind_word word a b x y good good' stops stops' e =
-    number_told a b x y good good' stops stops' (append_cancel_left word (decimal a ++ x) (decimal b ++ y) e)
+    wide_behind word a b x y (wide_32 a good) (wide_32 b good') stops stops' e
 
 -- where no name goes on, no number does
 ends_name : (x : List ℕ) → Stops is_name_byte x → Stops is_digit x
@@ -47,6 +53,10 @@ DetailGood what = DetailNamed what × DetailInRange what
 import_after : (table : List ℕ) (chunk rows : ℕ) (x : List ℕ) → detail_text (detail.Import table chunk rows) ++ x
     ≡ codes "import " ++ (table ++ (codes " chunk " ++ (decimal chunk ++ (codes " rows " ++ (decimal rows ++ x)))))
 import_after table chunk rows x = simp append_assoc
+
+-- a purge before what follows it
+purge_after : (table : List ℕ) (chunk : ℕ) (x : List ℕ) → detail_text (detail.Purge table chunk) ++ x ≡ codes "purge " ++ (table ++ (codes " chunk " ++ (decimal chunk ++ x)))
+purge_after table chunk x = simp append_assoc
 
 -- a detail before what no name has
 pub detail_told : Decodes DetailGood detail_text (Stops is_name_byte) (λ a b. a ≡ b)
@@ -62,19 +72,50 @@ detail_told (detail.Import a chunk rows) (detail.Import b other more) x y good g
     let number : chunk ≡ other = chunks.0 in
     let count : rows ≡ more = counts.0 in
     ((cc), counts.1)
+detail_told (detail.Purge a chunk) (detail.Purge b other) x y good good' stops stops' e =
+    let names = name_told a b _ _ good.0 good'.0 refl refl
+    (append_cancel_left (codes "purge ") _ _ (sym (purge_after a chunk x) ∙ e ∙ purge_after b other y)) in
+    let chunks = behind_word (codes " chunk ") chunk other x y good.1 good'.1 (ends_name x stops) (ends_name y stops') names.1 in
+    let table : a ≡ b = names.0 in
+    let number : chunk ≡ other = chunks.0 in
+    ((cc), chunks.1)
 detail_told a b x y good good' stops stops' e = absurd (differ (detail_text a ++ x) (detail_text b ++ y) refl e)
+
+-- a refusal with a number, behind its word
+told_with : (word : List ℕ) (refusal : ℕ → Refusal) (a b : ℕ) (x y : List ℕ) → IsWide a → IsWide b → Stops is_digit x → Stops is_digit y
+    → word ++ (decimal a ++ x) ≡ word ++ (decimal b ++ y) → (refusal a ≡ refusal b) × (x ≡ y)
+told_with word refusal a b x y good good' stops stops' e =
+    let told = wide_behind word a b x y good good' stops stops' e in (ap refusal told.0, told.1)
 
 -- a refusal at a byte, behind its word
 told_at : (word : List ℕ) (refusal : ℕ → Refusal) (a b : ℕ) (x y : List ℕ) → Is32 a → Is32 b → Stops is_digit x → Stops is_digit y
     → word ++ (decimal a ++ x) ≡ word ++ (decimal b ++ y) → (refusal a ≡ refusal b) × (x ≡ y)
-told_at word refusal a b x y good good' stops stops' e =
-    let told = behind_word word a b x y good good' stops stops' e in (ap refusal told.0, told.1)
+told_at word refusal a b x y good good' stops stops' e = told_with word refusal a b x y (wide_32 a good) (wide_32 b good') stops stops' e
+
+-- a record that is no row, before what follows it
+bad_row_after : (row column : ℕ) (x : List ℕ) → refusal_text (refused.BadRow row column) ++ x ≡ codes "bad-row " ++ (decimal row ++ (codes " " ++ (decimal column ++ x)))
+bad_row_after row column x = simp append_assoc
 
 -- why a statement is refused
 refusal_told : Decodes RefusalInRange refusal_text (Stops is_digit) (λ a b. a ≡ b)
 refusal_told refused.Unbuilt refused.Unbuilt x y good good' stops stops' e = (refl, append_cancel_left (codes "unbuilt") x y e)
 refusal_told refused.EmptyAggregate refused.EmptyAggregate x y good good' stops stops' e = (refl, append_cancel_left (codes "empty-aggregate") x y e)
 refusal_told (refused.Syntax a) (refused.Syntax b) x y good good' stops stops' e = told_at (codes "syntax ") refused.Syntax a b x y good good' stops stops' e
+refusal_told refused.TooManyColumns refused.TooManyColumns x y good good' stops stops' e = (refl, append_cancel_left (codes "too-many-columns") x y e)
+refusal_told (refused.DuplicateColumn a) (refused.DuplicateColumn b) x y good good' stops stops' e = told_with (codes "duplicate-column ") refused.DuplicateColumn a b x y (wide_8 a good) (wide_8 b good') stops stops' e
+refusal_told refused.TableExists refused.TableExists x y good good' stops stops' e = (refl, append_cancel_left (codes "table-exists") x y e)
+refusal_told refused.TooManyTables refused.TooManyTables x y good good' stops stops' e = (refl, append_cancel_left (codes "too-many-tables") x y e)
+refusal_told (refused.BadRow row column) (refused.BadRow other more) x y good good' stops stops' e =
+    let rows = behind_word (codes "bad-row ") row other (codes " " ++ (decimal column ++ x)) (codes " " ++ (decimal more ++ y)) good.0 good'.0 refl refl
+    (sym (bad_row_after row column x) ∙ e ∙ bad_row_after other more y) in
+    let columns = wide_behind (codes " ") column more x y (wide_8 column good.1) (wide_8 more good'.1) stops stops' rows.1 in
+    let record_same : row ≡ other = rows.0 in
+    let column_same : column ≡ more = columns.0 in
+    ((cc), columns.1)
+refusal_told (refused.LongRow a) (refused.LongRow b) x y good good' stops stops' e = told_at (codes "long-row ") refused.LongRow a b x y good good' stops stops' e
+refusal_told refused.TooManyChunks refused.TooManyChunks x y good good' stops stops' e = (refl, append_cancel_left (codes "too-many-chunks") x y e)
+refusal_told (refused.NoChunk a) (refused.NoChunk b) x y good good' stops stops' e = told_with (codes "no-chunk ") refused.NoChunk a b x y (wide_64 a good) (wide_64 b good') stops stops' e
+refusal_told refused.HistoryFull refused.HistoryFull x y good good' stops stops' e = (refl, append_cancel_left (codes "history-full") x y e)
 refusal_told (refused.NoTable a) (refused.NoTable b) x y good good' stops stops' e = told_at (codes "no-table ") refused.NoTable a b x y good good' stops stops' e
 refusal_told (refused.TooManyPlaces a) (refused.TooManyPlaces b) x y good good' stops stops' e = told_at (codes "too-many-places ") refused.TooManyPlaces a b x y good good' stops stops' e
 refusal_told (refused.DuplicateAlias a) (refused.DuplicateAlias b) x y good good' stops stops' e = told_at (codes "duplicate-alias ") refused.DuplicateAlias a b x y good good' stops stops' e

@@ -24,6 +24,7 @@ use Rattle.hv_report.specs.declared.report.Stats.{Stats}
 abbrev pub DetailNamed : Detail → Type 0
 DetailNamed (detail.Create table) = IsPlain table
 DetailNamed (detail.Import table chunk rows) = IsPlain table
+DetailNamed (detail.Purge table chunk) = IsPlain table
 
 -- so is that of an accepted command
 abbrev pub ReplyNamed : Reply → Type 0
@@ -47,6 +48,10 @@ pub record Named (r : Report) : Type 0 where
   pub sessions : All SessionNamed r.sessions
   pub history : All EntryNamed r.history
 
+-- a number of 8 bits
+abbrev pub Is8 : ℕ → Type 0
+Is8 n = n < 2 ^ 8
+
 -- a number of 32 bits
 abbrev pub Is32 : ℕ → Type 0
 Is32 n = n < 2 ^ 32
@@ -59,6 +64,7 @@ Is64 n = n < 2 ^ 64
 abbrev pub DetailInRange : Detail → Type 0
 DetailInRange (detail.Create table) = Unit {0}
 DetailInRange (detail.Import table chunk rows) = Is32 chunk × Is32 rows
+DetailInRange (detail.Purge table chunk) = Is32 chunk
 
 -- a number of 128 bits in a cell
 abbrev pub CellInRange : Cell → Type 0
@@ -69,11 +75,20 @@ CellInRange (Txt bytes) = Unit {0}
 abbrev pub RowInRange : List Cell → Type 0
 RowInRange cells = All CellInRange cells
 
--- the byte of a refusal
+-- the numbers of a refusal
 abbrev pub RefusalInRange : Refusal → Type 0
 RefusalInRange refused.Unbuilt = Unit {0}
 RefusalInRange (refused.Syntax byte) = Is32 byte
+RefusalInRange refused.TooManyColumns = Unit {0}
+RefusalInRange (refused.DuplicateColumn column) = Is8 column
+RefusalInRange refused.TableExists = Unit {0}
+RefusalInRange refused.TooManyTables = Unit {0}
 RefusalInRange (refused.NoTable byte) = Is32 byte
+RefusalInRange (refused.BadRow row column) = Is32 row × Is8 column
+RefusalInRange (refused.LongRow row) = Is32 row
+RefusalInRange refused.TooManyChunks = Unit {0}
+RefusalInRange (refused.NoChunk chunk) = Is64 chunk
+RefusalInRange refused.HistoryFull = Unit {0}
 RefusalInRange (refused.TooManyPlaces byte) = Is32 byte
 RefusalInRange (refused.DuplicateAlias byte) = Is32 byte
 RefusalInRange (refused.NoColumn byte) = Is32 byte

@@ -5,7 +5,7 @@ ghost use Rattle.hv_io.specs.Seen.{seen};
 ghost use Rattle.hv_io.specs.Printing.{Prints};
 ghost use Rattle.hv_io.specs.Putting.{Stopped, TookAll};
 ghost use Rattle.hv_model.specs.Report.{cell_text, detail_text, entries_text, entry_text, failure_text, history_text, quoted_byte, refusal_text, replies_text, reply_text, row_line, session_text, sessions_text};
-ghost use Rattle.hv_report.specs.Law.{CellInRange, DetailInRange, EntryInRange, FailureInRange, InRange, Is32, Is64, RefusalInRange, ReplyInRange, RowInRange, SessionInRange, StatsInRange};
+ghost use Rattle.hv_report.specs.Law.{CellInRange, DetailInRange, EntryInRange, FailureInRange, InRange, Is64, RefusalInRange, ReplyInRange, RowInRange, SessionInRange, StatsInRange};
 ghost use Rattle.hv_report.specs.Text.{names_of, replies_of, stats_text, text_of};
 
 use crate::report::{Report, SessionReport, Stats};
@@ -122,7 +122,24 @@ fn print_refusal<K: Sink>(printer: &mut Printer, out: &mut K, cause: Refusal)
     match cause {
         Refusal::Unbuilt => printer.put(out, b"unbuilt"),
         Refusal::Syntax { byte } => print_numbered(printer, out, b"syntax ", byte),
+        Refusal::TooManyColumns => printer.put(out, b"too-many-columns"),
+        Refusal::DuplicateColumn { column } => print_numbered(
+            printer,
+            out,
+            b"duplicate-column ",
+            column,
+        ),
+        Refusal::TableExists => printer.put(out, b"table-exists"),
+        Refusal::TooManyTables => printer.put(out, b"too-many-tables"),
         Refusal::NoTable { byte } => print_numbered(printer, out, b"no-table ", byte),
+        Refusal::BadRow { row, column } => {
+            print_numbered(printer, out, b"bad-row ", row);
+            print_numbered(printer, out, b" ", column);
+        }
+        Refusal::LongRow { row } => print_numbered(printer, out, b"long-row ", row),
+        Refusal::TooManyChunks => printer.put(out, b"too-many-chunks"),
+        Refusal::NoChunk { chunk } => print_numbered(printer, out, b"no-chunk ", chunk),
+        Refusal::HistoryFull => printer.put(out, b"history-full"),
         Refusal::TooManyPlaces { byte } => print_numbered(printer, out, b"too-many-places ", byte),
         Refusal::DuplicateAlias { byte } => print_numbered(printer, out, b"duplicate-alias ", byte),
         Refusal::NoColumn { byte } => print_numbered(printer, out, b"no-column ", byte),
@@ -135,9 +152,8 @@ fn print_refusal<K: Sink>(printer: &mut Printer, out: &mut K, cause: Refusal)
 }
 
 // A word and a number.
-fn print_numbered<K: Sink>(printer: &mut Printer, out: &mut K, word: &[u8], number: u32)
-    ensures prints { Prints (word.now ++ decimal number) (seen K.Sink out.old) printer.old (seen K.Sink out.new) printer.new }
-    ensures in_range { Is32 number }
+fn print_numbered<K: Sink, I: Integer>(printer: &mut Printer, out: &mut K, word: &[u8], number: I)
+    ensures { Prints (word.now ++ I.text number) (seen K.Sink out.old) printer.old (seen K.Sink out.new) printer.new }
 {
     printer.put(out, word);
     print_number(printer, out, number);
@@ -285,6 +301,11 @@ fn print_detail<K: Sink>(printer: &mut Printer, out: &mut K, what: &Detail)
             printer.put(out, b" rows ");
             print_number(printer, out, *rows);
         }
+        Detail::Purge { table, chunk } => {
+            printer.put(out, b"purge ");
+            printer.put(out, table.as_slice());
+            print_numbered(printer, out, b" chunk ", *chunk);
+        }
     }
 }
 
@@ -293,10 +314,14 @@ fn print_stats<K: Sink>(printer: &mut Printer, out: &mut K, stats: &Stats)
     ensures prints { Prints (stats_text (Some stats.now)) (seen K.Sink out.old) printer.old (seen K.Sink out.new) printer.new }
     ensures in_range { StatsInRange stats.now }
 {
-    print_numbered(printer, out, b"stats tasks ", stats.tasks);
-    print_numbered(printer, out, b" reads ", stats.reads);
-    printer.put(out, b" submits ");
-    print_number(printer, out, stats.submits);
+    let Stats {
+        tasks,
+        reads,
+        submits,
+    } = *stats;
+    print_numbered(printer, out, b"stats tasks ", tasks);
+    print_numbered(printer, out, b" reads ", reads);
+    print_numbered(printer, out, b" submits ", submits);
     printer.put(out, b"\n");
 }
 

@@ -10,4 +10,6 @@ mod long_rows;
 #[cfg(test)]
 mod made;
 #[cfg(test)]
+mod packed;
+#[cfg(test)]
 mod values;

@@ -1,5 +1,5 @@
 // The bytes of each kind of reply.
-use crate::reports::{WHOLE, bytes_of, created, imported, report, report_on, row, whole};
+use crate::reports::{WHOLE, bytes_of, created, imported, purged, report, report_on, row, whole};
 use hv_model::{Detail, Failure, OutRow, OutRows, Refusal, Replies, Reply, Why};
 use hv_report::report_law;
 use std::alloc::{AllocError, Global};
@@ -12,10 +12,33 @@ fn is_line(alloc: Global, reply: Reply, line: &str) -> Result<bool, AllocError> 
     Ok(bytes_of(alloc, &told).as_slice() == want.as_bytes())
 }
 
-const REFUSALS: [(Refusal, &str); 11] = [
+const REFUSALS: [(Refusal, &str); 20] = [
     (Refusal::Unbuilt, "refused @7 unbuilt"),
     (Refusal::Syntax { byte: 0 }, "refused @7 syntax 0"),
+    (Refusal::TooManyColumns, "refused @7 too-many-columns"),
+    (
+        Refusal::DuplicateColumn { column: 255 },
+        "refused @7 duplicate-column 255",
+    ),
+    (Refusal::TableExists, "refused @7 table-exists"),
+    (Refusal::TooManyTables, "refused @7 too-many-tables"),
     (Refusal::NoTable { byte: 9 }, "refused @7 no-table 9"),
+    (
+        Refusal::BadRow {
+            row: 1_000_001,
+            column: 0,
+        },
+        "refused @7 bad-row 1000001 0",
+    ),
+    (Refusal::LongRow { row: 2 }, "refused @7 long-row 2"),
+    (Refusal::TooManyChunks, "refused @7 too-many-chunks"),
+    (
+        Refusal::NoChunk {
+            chunk: 18_446_744_073_709_551_615,
+        },
+        "refused @7 no-chunk 18446744073709551615",
+    ),
+    (Refusal::HistoryFull, "refused @7 history-full"),
     (
         Refusal::TooManyPlaces { byte: 10 },
         "refused @7 too-many-places 10",
@@ -105,6 +128,8 @@ fn commands_are_told(rt: HostRuntime) -> Result<(), Fail> {
             "ok @4294967295 import t chunk 1 rows 4294967295"
         )?
     );
+    let purge = done(purged(rt.alloc())?);
+    assert!(rt; is_line(rt.alloc(), purge, "ok @4294967295 purge t chunk 4294967295")?);
     Ok(())
 }
 

@@ -47,6 +47,13 @@ pub fn imported(alloc: Global) -> Result<Detail, AllocError> {
     })
 }
 
+pub fn purged(alloc: Global) -> Result<Detail, AllocError> {
+    Ok(Detail::Purge {
+        table: Bytes::from_slice(alloc, b"t")?,
+        chunk: 4_294_967_295,
+    })
+}
+
 pub fn row(alloc: Global, number: i128, text: &[u8]) -> Result<OutRow, AllocError> {
     let mut row = OutRow::new(alloc);
     row.push(Cell::Num(number))?;
@@ -91,6 +98,7 @@ fn history(alloc: Global) -> Result<Entries, AllocError> {
     let mut history = Entries::new(alloc);
     history.push(entry(alloc, b"main", 1, created(alloc)?)?)?;
     history.push(entry(alloc, b"idle", 4_294_967_295, imported(alloc)?)?)?;
+    history.push(entry(alloc, b"idle", 2, purged(alloc)?)?)?;
     Ok(history)
 }
 
@@ -111,7 +119,8 @@ pub const WHOLE: &str = "session main\n\
     1 ok @1 create t\n\
     2 failed @1 memory\n\
     3 rows @1 0\n\
-    history 2\n\
+    history 3\n\
     1 main 1 create t\n\
     2 idle 4294967295 import t chunk 1 rows 4294967295\n\
+    3 idle 2 purge t chunk 4294967295\n\
     stats tasks 1 reads 20 submits 18446744073709551615\n";

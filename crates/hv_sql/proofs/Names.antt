@@ -1,8 +1,7 @@
--- The table that a statement's text creates or imports into has a name, and so has that of an entry of a legal history.
-use Rattle.std.proofs.Common.{◌≡◌, ℕ, Bool, true, false, cond, List, [], ◌∷◌, length, Option, Some, None, refl, subst, inl, inr}
+-- The table that a statement's text creates, imports into or purges has a name, and so has that of an entry of a legal history.
+use Rattle.std.proofs.Common.{◌≡◌, ℕ, true, List, [], ◌∷◌, length, Option, Some, None, refl, subst, inl, inr}
 use Rattle.std.specs.Prelude.{Result, Ok, Err}
-use Rattle.std.specs.Option.{option_and_then, option_map}
-use Rattle.hv_row.specs.declared.value.Value.{Value}
+use Rattle.std.specs.Result.{result_map_both}
 use Rattle.hv_row.specs.declared.schema.Column.{Column}
 use Rattle.hv_model.specs.declared.lexeme.Sort.{Sort}
 use Rattle.hv_model.specs.declared.lexeme.Sort.TheVariants as sort
@@ -18,24 +17,24 @@ use Rattle.hv_model.specs.declared.tree.Ast.{Ast}
 use Rattle.hv_model.specs.declared.tree.Ast.TheVariants as ast
 use Rattle.hv_model.specs.declared.script.Statement.{Statement}
 use Rattle.hv_model.specs.declared.script.Script.{Script}
-use Rattle.hv_model.specs.declared.catalogue.Table.{Table}
-use Rattle.hv_model.specs.declared.catalogue.Database.{Database}
-use Rattle.hv_model.specs.declared.catalogue.Command.{Command}
-use Rattle.hv_model.specs.declared.catalogue.Command.TheVariants.{Create, Import}
+use Rattle.hv_model.specs.declared.catalogue.Command.TheVariants.{Create, Import, Purge}
 use Rattle.hv_model.specs.declared.catalogue.Detail.{Detail}
 use Rattle.hv_model.specs.declared.catalogue.Detail.TheVariants as detail
 use Rattle.hv_model.specs.declared.catalogue.Entry.{Entry}
+use Rattle.hv_model.specs.declared.reply.Refusal.{Refusal}
 use Rattle.hv_model.specs.declared.reply.Reply.{Reply}
 use Rattle.hv_model.specs.Token.{is_name}
 use Rattle.hv_model.specs.Lexemes.{keyword_of, symbol_of, bytes_of, tokens_of, IsOf}
 use Rattle.hv_model.specs.Lexed.{some_keyword, some_symbol, what_of, lexemes_of, lexemes, AllStandIn}
-use Rattle.hv_model.specs.Terminals.{is_keyword, word_of}
+use Rattle.hv_model.specs.Terminals.{is_keyword, is_number, word_of}
 use Rattle.hv_model.specs.Grammar.{one}
-use Rattle.hv_model.specs.Sql.{name, create, import, purge, merge, session, barrier, select, statement}
+use Rattle.hv_model.specs.Sql.{most_number, name, create, import, purge, merge, session, barrier, select, statement}
 use Rattle.hv_model.specs.SqlReading.{tree_at}
-use Rattle.hv_model.specs.Parsed.{placed, some_tree, tree_of}
+use Rattle.hv_model.specs.Parsed.{placed, parsed}
 use Rattle.hv_model.specs.Import.{rows_of}
-use Rattle.hv_model.specs.Command.{table_named, are_schema, command_of, detail_of, entry_at}
+use Rattle.hv_model.specs.Causes.{first_of, given_unless}
+use Rattle.hv_model.specs.Database.{Rows, RowTable, RowDatabase, RowCommand}
+use Rattle.hv_model.specs.Command.{table_named, column_causes, import_into, command_of, text_command, detail_of, entry_at}
 use Rattle.hv_model.specs.Legal.{Accepted, Legal}
 use Rattle.hv_sql.proofs.Standing.{tokens_stand}
 use Rattle.hv_sql.proofs.OneReading.{trees_sound}
@@ -71,7 +70,7 @@ tokens_named text [] all = tt
 tokens_named text (t ∷ ts) all = (what_named t.sort (bytes_of text t) all.0.sorted, tokens_named text ts all.1)
 
 -- behind a lexeme that was read
-rest_named : (test : Lexeme → Option ℕ) (lexemes rest : List Lexeme) (n : ℕ) → one test lexemes rest n → AllNamed lexemes → AllNamed rest
+rest_named : {A : Type 0} (test : Lexeme → Option A) (lexemes rest : List Lexeme) (n : A) → one test lexemes rest n → AllNamed lexemes → AllNamed rest
 rest_named test [] rest n s named = absurd s
 rest_named test (t ∷ ts) rest n s named = subst (λ (us : List Lexeme). AllNamed us) s.1 named.1
 
@@ -90,15 +89,20 @@ name_named : (lexemes rest : List Lexeme) (w : Word) → name lexemes rest w →
 name_named [] rest w s named = absurd s
 name_named (t ∷ ts) rest w s named = word_named t.what t.byte w s.0 named.0
 
--- the table that a statement creates or imports into has a name
+-- the table that a statement creates, imports into or purges has a name
 abbrev pub TableNamed : Ast → Type 0
 TableNamed (ast.Create table columns) = is_name table.name ≡ true
 TableNamed (ast.Import table wanted) = is_name table.name ≡ true
+TableNamed (ast.Purge chunk table) = is_name table.name ≡ true
 TableNamed _ = Unit {0}
+
+-- behind two lexemes that were read
+second_named : {A B : Type 0} (p : Lexeme → Option A) (q : Lexeme → Option B) (lexemes a b : List Lexeme) (m : A) (n : B) → one p lexemes a m → one q a b n → AllNamed lexemes → AllNamed b
+second_named p q lexemes a b m n first second named = rest_named q a b n second (rest_named p lexemes a m first named)
 
 -- the name behind two keywords
 third_named : (p q : Lexeme → Option ℕ) (lexemes a b rest : List Lexeme) (m n : ℕ) (w : Word) → one p lexemes a m → one q a b n → name b rest w → AllNamed lexemes → is_name w.name ≡ true
-third_named p q lexemes a b rest m n w first second third named = name_named b rest w third (rest_named q a b n second (rest_named p lexemes a m first named))
+third_named p q lexemes a b rest m n w first second third named = name_named b rest w third (second_named p q lexemes a b m n first second named)
 
 of_create : (lexemes : List Lexeme) (a : Ast) → create lexemes [] a → AllNamed lexemes → TableNamed a
 unfolding create
@@ -114,9 +118,14 @@ of_import lexemes a s named =
     subst (λ (b : Ast). TableNamed b) at.second.second.second.1
     (third_named (is_keyword k.Import) (is_keyword k.Into) lexemes _ _ _ s.value s.second.value at.value s.first s.second.first at.first named)
 
-of_purge : (lexemes : List Lexeme) (a : Ast) → purge lexemes [] a → TableNamed a
+of_purge : (lexemes : List Lexeme) (a : Ast) → purge lexemes [] a → AllNamed lexemes → TableNamed a
 unfolding purge
-of_purge lexemes a s = subst (λ (b : Ast). TableNamed b) s.second.second.second.second.second.1 tt
+of_purge lexemes a s named =
+    let at = s.second.second in
+    let name_at = at.second.second in
+    let number_on = second_named (is_keyword k.Purge) (is_keyword k.Chunk) lexemes s.middle s.second.middle s.value s.second.value s.first s.second.first named in
+    let name_on = second_named (is_number most_number) (is_keyword k.Of) s.second.middle at.middle at.second.middle at.value at.second.value at.first at.second.first number_on in
+    subst (λ (b : Ast). TableNamed b) name_at.second.1 (name_named at.second.middle name_at.middle name_at.value name_at.first name_on)
 
 of_merge : (lexemes : List Lexeme) (a : Ast) → merge lexemes [] a → TableNamed a
 unfolding merge
@@ -138,22 +147,22 @@ of_statement : (lexemes : List Lexeme) (a : Ast) → statement lexemes [] a → 
 unfolding statement
 of_statement lexemes a (inl s) named = of_create lexemes a s named
 of_statement lexemes a (inr (inl s)) named = of_import lexemes a s named
-of_statement lexemes a (inr (inr (inl s))) named = of_purge lexemes a s
+of_statement lexemes a (inr (inr (inl s))) named = of_purge lexemes a s named
 of_statement lexemes a (inr (inr (inr (inl s)))) named = of_merge lexemes a s
 of_statement lexemes a (inr (inr (inr (inr (inl s))))) named = of_session lexemes a s
 of_statement lexemes a (inr (inr (inr (inr (inr (inl s)))))) named = of_barrier lexemes a s
 of_statement lexemes a (inr (inr (inr (inr (inr (inr s)))))) named = of_select lexemes a s
 
-some_ast : (a b : Ast) → ◌≡◌ {A = Option Ast} (Some a) (Some b) → a ≡ b
-some_ast a b e = cc
+ok_ast : (a b : Ast) → ◌≡◌ {A = Result Ast ℕ} (Ok a) (Ok b) → a ≡ b
+ok_ast a b e = cc
 
 -- the table of a text
-pub text_named : (text : List ℕ) (a : Ast) → tree_of text ≡ Some a → TableNamed a
+pub text_named : (text : List ℕ) (a : Ast) → parsed text ≡ Ok a → TableNamed a
 text_named text a is = go (tree_at (lexemes text)) refl is
   where
-    go : (r : Result Ast (List Lexeme)) → tree_at (lexemes text) ≡ r → some_tree (placed (length text) r) ≡ Some a → TableNamed a
+    go : (r : Result Ast (List Lexeme)) → tree_at (lexemes text) ≡ r → placed (length text) r ≡ Ok a → TableNamed a
     go (Ok b) read e =
-        subst (λ (c : Ast). TableNamed c) (some_ast b a e)
+        subst (λ (c : Ast). TableNamed c) (ok_ast b a e)
         (of_statement (lexemes text) b (trees_sound (lexemes text) b read) (tokens_named text (tokens_of text) (tokens_stand text)))
     go (Err at) read e = absurd cc
 
@@ -161,48 +170,58 @@ text_named text a is = go (tree_at (lexemes text)) refl is
 abbrev pub told_table : Detail → List ℕ
 told_table (detail.Create table) = table
 told_table (detail.Import table chunk rows) = table
+told_table (detail.Purge table chunk) = table
 
 -- the table of a command
-abbrev table_in : Command → List ℕ
+abbrev table_in : RowCommand → List ℕ
 table_in (Create table schema) = table
-table_in (Import table rows) = table
+table_in (Import table content) = table
+table_in (Purge table chunk) = table
 
-told_of : (s : Database) (c : Command) → told_table (detail_of s c) ≡ table_in c
-told_of s (Create table schema) = refl
-told_of s (Import table rows) = refl
+told_in : (s : RowDatabase) (c : RowCommand) → told_table (detail_of s c) ≡ table_in c
+told_in s (Create table schema) = refl
+told_in s (Import table content) = refl
+told_in s (Purge table chunk) = refl
 
-some_command : (c d : Command) → ◌≡◌ {A = Option Command} (Some c) (Some d) → c ≡ d
-some_command c d e = cc
+-- the table of a command that is this one
+same_named : (c d : RowCommand) → ◌≡◌ {A = Result RowCommand Refusal} (Ok c) (Ok d) → is_name (table_in c) ≡ true → is_name (table_in d) ≡ true
+same_named c d e named = let same : c ≡ d = cc in subst (λ (b : RowCommand). is_name (table_in b) ≡ true) same named
 
-create_named : (table : Word) (columns : List Column) (c : Command) (fits : Bool) → is_name table.name ≡ true
-    → cond fits (Some (Create table.name columns)) None ≡ Some c → is_name (table_in c) ≡ true
-create_named table columns c true named e = subst (λ (d : Command). is_name (table_in d) ≡ true) (some_command (Create table.name columns) c e) named
-create_named table columns c false named e = absurd cc
+create_named : (table : Word) (columns : List Column) (c : RowCommand) (cause : Option Refusal) → is_name table.name ≡ true
+    → ◌≡◌ {A = Result RowCommand Refusal} (given_unless cause (Create table.name columns)) (Ok c) → is_name (table_in c) ≡ true
+create_named table columns c None named e = same_named (Create table.name columns) c e named
+create_named table columns c (Some cause) named e = absurd cc
 
-import_named : (name lines : List ℕ) (c : Command) (o : Option Table) → is_name name ≡ true
-    → option_and_then (λ t. option_map (λ rows. Import name rows) (rows_of t.schema lines)) o ≡ Some c → is_name (table_in c) ≡ true
-import_named name lines c None named e = absurd cc
-import_named name lines c (Some t) named e = go (rows_of t.schema lines) e
+import_named : (table : Word) (lines : List ℕ) (c : RowCommand) (o : Option RowTable) → is_name table.name ≡ true
+    → import_into (λ rows. rows) table lines o ≡ Ok c → is_name (table_in c) ≡ true
+import_named table lines c None named e = absurd cc
+import_named table lines c (Some t) named e = go (rows_of t.schema lines) e
   where
-    go : (o : Option (List (List Value))) → option_map (λ rows. Import name rows) o ≡ Some c → is_name (table_in c) ≡ true
-    go None f = absurd cc
-    go (Some rows) f = subst (λ (d : Command). is_name (table_in d) ≡ true) (some_command (Import name rows) c f) named
+    go : (r : Result Rows Refusal) → ◌≡◌ {A = Result RowCommand Refusal} (result_map_both (λ rows. Import table.name rows) (λ cause. cause) r) (Ok c) → is_name (table_in c) ≡ true
+    go (Err cause) f = absurd cc
+    go (Ok rows) f = same_named (Import table.name rows) c f named
 
-command_named : (tree : Option Ast) (lines : List ℕ) (s : Database) (c : Command) → ((a : Ast) → tree ≡ Some a → TableNamed a) → command_of tree lines s ≡ Some c
-    → is_name (table_in c) ≡ true
-command_named None lines s c named e = absurd cc
-command_named (Some (ast.Create table columns)) lines s c named e = create_named table columns c (are_schema columns) (named (ast.Create table columns) refl) e
-command_named (Some (ast.Import table wanted)) lines s c named e = import_named table.name lines c (table_named s table.name) (named (ast.Import table wanted) refl) e
-command_named (Some (ast.Purge chunk table)) lines s c named e = absurd cc
-command_named (Some (ast.Merge parts table)) lines s c named e = absurd cc
-command_named (Some (ast.Session word)) lines s c named e = absurd cc
-command_named (Some ast.Barrier) lines s c named e = absurd cc
-command_named (Some (ast.Select x)) lines s c named e = absurd cc
+command_named : (a : Ast) (lines : List ℕ) (s : RowDatabase) (c : RowCommand) → TableNamed a → command_of (λ rows. rows) a lines s ≡ Ok c → is_name (table_in c) ≡ true
+command_named (ast.Create table columns) lines s c named e = create_named table columns c (first_of (column_causes columns)) named e
+command_named (ast.Import table wanted) lines s c named e = import_named table lines c (table_named s table.name) named e
+command_named (ast.Purge chunk table) lines s c named e = same_named (Purge table.name chunk) c e named
+command_named (ast.Merge parts table) lines s c named e = absurd cc
+command_named (ast.Session word) lines s c named e = absurd cc
+command_named ast.Barrier lines s c named e = absurd cc
+command_named (ast.Select x) lines s c named e = absurd cc
+
+-- the table of a command that a text asks for
+asked_named : (text lines : List ℕ) (s : RowDatabase) (c : RowCommand) → text_command (λ rows. rows) (parsed text) lines s ≡ Ok c → is_name (table_in c) ≡ true
+asked_named text lines s c is = go (parsed text) refl is
+  where
+    go : (r : Result Ast ℕ) → parsed text ≡ r → text_command (λ rows. rows) r lines s ≡ Ok c → is_name (table_in c) ≡ true
+    go (Ok a) read e = command_named a lines s c (text_named text a read) e
+    go (Err byte) read e = absurd cc
 
 -- the table that is told of a statement whose command was accepted
-pub accepted_named : (x : Statement) (before : Database) (what : Detail) → Accepted x before what → is_name (told_table what) ≡ true
+pub accepted_named : (x : Statement) (before : RowDatabase) (what : Detail) → Accepted x before what → is_name (told_table what) ≡ true
 accepted_named x before what accepted =
-    rw (accepted.told, told_of before accepted.command) (command_named (tree_of x.text) x.lines before accepted.command (text_named x.text) accepted.is)
+    rw (accepted.told, told_in before accepted.command) (asked_named x.text x.lines before accepted.command accepted.is)
 
 -- the table of an entry of a legal history
 pub entry_named : (s : Script) (max : ℕ) (known : Type 0) (history : List Entry) (replies : List (List Reply)) → Legal s max known history replies

@@ -2,6 +2,8 @@
 //! What a chunk means never changes; where its file tells what it holds, the pages are those of its rows.
 #![tactic(auto)]
 
+mod held;
 mod view;
 
+pub use held::{HeldChunk, HeldChunks, HeldTable, HeldTables, Snapshot};
 pub use view::ChunkView;

@@ -1,62 +1,45 @@
 -- What holds before each statement is answered.
 use Rattle.std.proofs.Common.{◌≡◌, ◌<◌, ◌≤◌, ◌+◌, ℕ, Bool, List, [], ◌∷◌, ◌++◌, length, min, Some, refl, sym, subst, arith, length-append}
-use Rattle.std.specs.List.{slice_get}
-use Rattle.std.proofs.lemmas.List.Sums.{count_by-le-length}
+use Rattle.std.specs.List.{All, slice_get}
+use Rattle.std.proofs.lemmas.List.Elements.{All-nil}
 use Rattle.hv_model.specs.declared.script.Statement.{Statement}
 use Rattle.hv_model.specs.declared.script.Script.{Script}
-use Rattle.hv_model.specs.declared.catalogue.Database.{Database}
 use Rattle.hv_model.specs.declared.catalogue.Entry.{Entry}
 use Rattle.hv_model.specs.declared.reply.Reply.{Reply}
-use Rattle.hv_model.specs.Database.{most_entries, empty_database}
-use Rattle.hv_model.specs.Legal.{is_done}
+use Rattle.hv_model.specs.Database.{RowDatabase, empty_database}
 use Rattle.hv_model.specs.OneSession.{IsOneSession, Kept, Settles}
 use Rattle.hv_model.proofs.SoFar.{kept_next, kept_start}
 use Rattle.hv_model.proofs.Premises.{settles_under, kept_under}
-use Rattle.oodb.specs.declared.store.Store.{Store}
+use Rattle.hv_view.specs.View.{Viewed, IsBuilt}
+use Rattle.hv_catalogue.specs.Holding.{Holding}
 use Rattle.oodb.specs.Stored.{database_of, IsSound, AreFiles, HasFiles}
 use Rattle.oodb.specs.Known.{DatabaseIsKnown, Known}
 use Rattle.oodb.specs.Reads.{PortSeen, GoesOn, fresh_port}
 use Rattle.oodb.specs.Damage.{RepliedBy}
 use Rattle.oodb.specs.Causes.{CausedSoFar}
 use Rattle.oodb.proofs.Knowing.{known_sooner, known_now}
+use Rattle.oodb.proofs.HeldTables.{HasItsFiles}
 use Rattle.oodb.proofs.Causing.{history_kept, caused_next, caused_start}
 
--- the first statements are answered, the store is what their commands left, their failures stand on what the port did, and there is room for what is to come
-pub record SoFar {File : Type 0} (tells : Bool) (pages : File → List (List ℕ)) (s : Script) (xs : List Statement) (at : ℕ) (now : Store File) (history : List Entry) (entries : ℕ) (replies : List Reply) (most : ℕ) (port : PortSeen File) : Type 0 where
-  pub kept : (max : ℕ) → Kept s xs max (Known tells s history port.reading.landings) (database_of now) history replies
-  pub causes : CausedSoFar tells s history replies port
+-- the first statements are answered, the catalogue is what their commands left, and their failures stand on what the port did
+pub record SoFar {File : Type 0} (tells : Bool) (pages : File → List (List ℕ)) (s : Script) (xs : List Statement) (at : ℕ) (now : Holding (Viewed File)) (replies : List Reply) (most : ℕ) (port : PortSeen File) : Type 0 where
+  pub kept : (max : ℕ) → Kept s xs max (Known tells s now.history port.reading.landings) (database_of now) now.history replies
+  pub causes : CausedSoFar tells s now.history replies port
   pub are : AreFiles now causes.files
-  pub counted : now.length ≡ length history
   pub sound : IsSound tells pages now
   pub answered : length replies ≡ at
-  pub entries_fit : min (length xs) most_entries ≤ entries
   pub replies_fit : length xs ≤ most
 
--- a history has no more entries than there are replies
-few_entries : {File : Type 0} (tells : Bool) (pages : File → List (List ℕ)) (s : Script) (xs : List Statement) (at : ℕ) (now : Store File) (history : List Entry) (entries : ℕ) (replies : List Reply) (most : ℕ) (port : PortSeen File)
-    → SoFar tells pages s xs at now history entries replies most port → length history ≤ at
-few_entries tells pages s xs at now history entries replies most port so_far =
-    let counted = (so_far.kept 0).legal.counted in
-    let answered : length replies ≡ at = so_far.answered in
-    omega (arith, counted, count_by-le-length is_done replies)
-
--- there is room for one more entry
-pub has_room : {File : Type 0} (tells : Bool) (pages : File → List (List ℕ)) (s : Script) (xs : List Statement) (at : ℕ) (now : Store File) (history : List Entry) (entries : ℕ) (replies : List Reply) (most : ℕ) (port : PortSeen File)
-    → SoFar tells pages s xs at now history entries replies most port → at < length xs → length history < most_entries → length history < entries
-has_room tells pages s xs at now history entries replies most port so_far below few =
-    let fit : min (length xs) most_entries ≤ entries = so_far.entries_fit in
-    omega (arith, few_entries tells pages s xs at now history entries replies most port so_far)
-
 -- one more statement is answered
-pub so_far_next : {File : Type 0} (tells : Bool) (pages : File → List (List ℕ)) (s : Script) (xs : List Statement) (at : ℕ) (now new : Store File) (history longer : List Entry) (entries more : ℕ) (replies : List Reply) (most : ℕ) (port after : PortSeen File) (x : Statement) (r : Reply)
-    → IsOneSession s xs → SoFar tells pages s xs at now history entries replies most port → slice_get xs at ≡ Some x
-    → ((max : ℕ) → Settles x max (DatabaseIsKnown tells (database_of now) after.reading.landings) (database_of now) history r (database_of new) longer)
+pub so_far_next : {File : Type 0} (tells : Bool) (pages : File → List (List ℕ)) (s : Script) (xs : List Statement) (at : ℕ) (now new : Holding (Viewed File)) (replies : List Reply) (most : ℕ) (port after : PortSeen File) (x : Statement) (r : Reply)
+    → IsOneSession s xs → SoFar tells pages s xs at now replies most port → slice_get xs at ≡ Some x
+    → ((max : ℕ) → Settles x max (DatabaseIsKnown tells (database_of now) after.reading.landings) (database_of now) now.history r (database_of new) new.history)
     → ((files : List File) → AreFiles now files → RepliedBy tells (database_of now) files port after r) → ((files : List File) → AreFiles now files → HasFiles new files) → GoesOn port after
-    → IsSound tells pages new → new.length ≡ length longer → entries ≤ more
-    → SoFar tells pages s xs (at + 1) new longer more (replies ++ r ∷ []) most after
-so_far_next {File} tells pages s xs at now new history longer entries more replies most port after x r one so_far stands settles by more_files goes sound counted wider =
+    → IsSound tells pages new → SoFar tells pages s xs (at + 1) new (replies ++ r ∷ []) most after
+so_far_next {File} tells pages s xs at now new replies most port after x r one so_far stands settles by more_files goes sound =
+    let history = now.history in
+    let longer = new.history in
     let answered : length replies ≡ at = so_far.answered in
-    let entries_fit : min (length xs) most_entries ≤ entries = so_far.entries_fit in
     let was = Known tells s history port.reading.landings in
     let known = Known tells s longer after.reading.landings in
     let here = DatabaseIsKnown tells (database_of now) after.reading.landings in
@@ -74,26 +57,25 @@ so_far_next {File} tells pages s xs at now new history longer entries more repli
       kept = next;
       causes = over.causes;
       are = subst (λ (all : List File). AreFiles new all) (sym over.files_are) files.are;
-      counted = counted;
       sound = sound;
       answered = omega (arith, length-append replies (r ∷ []));
-      entries_fit = omega arith;
       replies_fit = so_far.replies_fit;
     }
 
+-- the catalogue without a table
+abbrev pub nothing_held : (File : Type 0) → Holding (Viewed File)
+nothing_held File = record { database = empty_database; history = [] }
+
 -- before the first statement
-pub so_far_start : {File : Type 0} (tells : Bool) (pages : File → List (List ℕ)) (s : Script) (xs : List Statement) (now : Store File) (history : List Entry) (entries : ℕ) (replies : List Reply) (most : ℕ) (port : PortSeen File)
-    → database_of now ≡ empty_database → IsSound tells pages now → AreFiles now [] → now.length ≡ 0 → history ≡ [] → replies ≡ [] → min (length xs) most_entries ≤ entries → length xs ≤ most → port ≡ fresh_port File
-    → SoFar tells pages s xs 0 now history entries replies most port
-so_far_start {File} tells pages s xs now history entries replies most port empty sound files short no_entry no_reply entries_fit replies_fit fresh =
-    subst (λ (es : List Entry). SoFar tells pages s xs 0 now es entries replies most port) (sym no_entry)
-    (subst (λ (rs : List Reply). SoFar tells pages s xs 0 now [] entries rs most port) (sym no_reply) (record {
-      kept = (λ max. subst (λ (d : Database). Kept s xs max (Known tells s [] port.reading.landings) d [] []) (sym empty) (kept_start s xs max (Known tells s [] port.reading.landings)));
+pub so_far_start : {File : Type 0} (tells : Bool) (pages : File → List (List ℕ)) (s : Script) (xs : List Statement) (now : Holding (Viewed File)) (replies : List Reply) (most : ℕ) (port : PortSeen File)
+    → now ≡ nothing_held File → replies ≡ [] → length xs ≤ most → port ≡ fresh_port File → SoFar tells pages s xs 0 now replies most port
+so_far_start {File} tells pages s xs now replies most port empty no_reply replies_fit fresh =
+    subst (λ (held : Holding (Viewed File)). SoFar tells pages s xs 0 held replies most port) (sym empty)
+    (subst (λ (rs : List Reply). SoFar tells pages s xs 0 (nothing_held File) rs most port) (sym no_reply) (record {
+      kept = (λ max. kept_start s xs max (Known tells s [] port.reading.landings));
       causes = (caused_start tells s port fresh).causes;
-      are = subst (λ (all : List File). AreFiles now all) (sym (caused_start tells s port fresh).files_are) files;
-      counted = short;
-      sound = sound;
+      are = subst (λ (all : List File). AreFiles (nothing_held File) all) (sym (caused_start tells s port fresh).files_are) (record { count = refl; each = All-nil (HasItsFiles []) });
+      sound = All-nil (λ t. All (λ c. IsBuilt tells pages t.schema c.content.rows c.content) t.chunks);
       answered = refl;
-      entries_fit = entries_fit;
       replies_fit = replies_fit;
     }))

@@ -9,7 +9,7 @@ use Rattle.hv_io.specs.Counts.{Rose}
 use Rattle.hv_dev.specs.Reading.{Reading, Landing}
 use Rattle.hv_model.specs.declared.script.Statement.{Statement}
 use Rattle.hv_model.specs.declared.script.Script.{Script}
-use Rattle.hv_model.specs.declared.catalogue.Database.{Database}
+use Rattle.hv_model.specs.Database.{RowDatabase}
 use Rattle.hv_model.specs.declared.catalogue.Entry.{Entry}
 use Rattle.hv_model.specs.declared.reply.Why.{Why}
 use Rattle.hv_model.specs.declared.reply.Why.TheVariants.{Digest, Form}
@@ -24,7 +24,7 @@ use Rattle.hv_model.proofs.SoFar.{database_after-kept}
 use Rattle.oodb.specs.Reads.{PortSeen, IsIdle, GoesOn, fresh_port}
 use Rattle.oodb.specs.Damage.{is_digest_why, Serves, StandsOn, RepliedBy}
 use Rattle.oodb.specs.Causes.{RoseBy, RoseWith, is_read, is_write, is_digest, failed_so, failed_so_option, DamagesStand, CausedSoFar}
-use Rattle.oodb.proofs.StoreChanges.{file_longer}
+use Rattle.oodb.proofs.HeldTables.{file_longer}
 use Rattle.oodb.proofs.Landed.{get_front, get_longer}
 use Rattle.oodb.proofs.Knowing.{is_at}
 
@@ -63,7 +63,7 @@ rose_with_next kind rs r before now with_them le rose still = record {
 }
 
 -- a reply of a failed read has its cause, and so has one of a failed write; each other reply leaves the count as it was
-pub read_rose : {File : Type 0} (tells : Bool) (s : Database) (files : List File) (before now : PortSeen File) (r : Reply) → RepliedBy tells s files before now r → failed_so is_read r ≡ true
+pub read_rose : {File : Type 0} (tells : Bool) (s : RowDatabase) (files : List File) (before now : PortSeen File) (r : Reply) → RepliedBy tells s files before now r → failed_so is_read r ≡ true
     → Rose before.reading.read_faults now.reading.read_faults
 read_rose tells s files before now (Done at what) by e = absurd cc
 read_rose tells s files before now (Rows at rows) by e = absurd cc
@@ -73,7 +73,7 @@ read_rose tells s files before now (Failed at Write) by e = absurd cc
 read_rose tells s files before now (Failed at (Damaged chunk page why)) by e = absurd cc
 read_rose tells s files before now (Failed at Memory) by e = absurd cc
 
-read_still : {File : Type 0} (tells : Bool) (s : Database) (files : List File) (before now : PortSeen File) (r : Reply) → RepliedBy tells s files before now r → failed_so is_read r ≡ false
+read_still : {File : Type 0} (tells : Bool) (s : RowDatabase) (files : List File) (before now : PortSeen File) (r : Reply) → RepliedBy tells s files before now r → failed_so is_read r ≡ false
     → now.reading.read_faults ≡ before.reading.read_faults
 read_still tells s files before now (Done at what) by e = by.0.reads
 read_still tells s files before now (Rows at rows) by e = by.0.reads
@@ -83,7 +83,7 @@ read_still tells s files before now (Failed at Write) by e = ap (λ r. r.read_fa
 read_still tells s files before now (Failed at (Damaged chunk page why)) by e = by.0.reads
 read_still tells s files before now (Failed at Memory) by e = by.0.reads
 
-pub write_rose : {File : Type 0} (tells : Bool) (s : Database) (files : List File) (before now : PortSeen File) (r : Reply) → RepliedBy tells s files before now r → failed_so is_write r ≡ true
+pub write_rose : {File : Type 0} (tells : Bool) (s : RowDatabase) (files : List File) (before now : PortSeen File) (r : Reply) → RepliedBy tells s files before now r → failed_so is_write r ≡ true
     → Rose before.write_faults now.write_faults
 write_rose tells s files before now (Done at what) by e = absurd cc
 write_rose tells s files before now (Rows at rows) by e = absurd cc
@@ -93,7 +93,7 @@ write_rose tells s files before now (Failed at Write) by e = by.0
 write_rose tells s files before now (Failed at (Damaged chunk page why)) by e = absurd cc
 write_rose tells s files before now (Failed at Memory) by e = absurd cc
 
-write_still : {File : Type 0} (tells : Bool) (s : Database) (files : List File) (before now : PortSeen File) (r : Reply) → RepliedBy tells s files before now r → failed_so is_write r ≡ false → now.write_faults ≡ before.write_faults
+write_still : {File : Type 0} (tells : Bool) (s : RowDatabase) (files : List File) (before now : PortSeen File) (r : Reply) → RepliedBy tells s files before now r → failed_so is_write r ≡ false → now.write_faults ≡ before.write_faults
 write_still tells s files before now (Done at what) by e = by.0.writes
 write_still tells s files before now (Rows at rows) by e = by.0.writes
 write_still tells s files before now (Refused at cause) by e = by.0.writes
@@ -105,7 +105,7 @@ write_still tells s files before now (Failed at Memory) by e = by.0.writes
 -- ---- the reads that damage stands on
 
 -- over more files and more reads
-stands_longer : {File : Type 0} (tells : Bool) (s : Database) (files new : List File) (landed more after : List (Landing File)) (place number page : ℕ) (why : Why) → after ≡ landed ++ more
+stands_longer : {File : Type 0} (tells : Bool) (s : RowDatabase) (files new : List File) (landed more after : List (Landing File)) (place number page : ℕ) (why : Why) → after ≡ landed ++ more
     → StandsOn tells s files landed place number page why → StandsOn tells s (files ++ new) after place number page why
 stands_longer tells s files new landed more after place number page why is on = record {
   untold = on.untold;
@@ -119,7 +119,7 @@ stands_longer tells s files new landed more after place number page why is on = 
   because = on.because;
 }
 
-serves_longer : {File : Type 0} (s : Database) (files new : List File) (read : Landing File) → Serves s files read → Serves s (files ++ new) read
+serves_longer : {File : Type 0} (s : RowDatabase) (files new : List File) (read : Landing File) → Serves s files read → Serves s (files ++ new) read
 serves_longer s files new read serves = record {
   number = serves.number;
   schema = serves.schema;
@@ -217,7 +217,7 @@ damage_next {File} tells s history longer rs r files fresh landed more after new
         | inl below ↦ (let had : slice_get landed j ≡ Some read = sym (get_front landed more j below) ∙ ap (λ (l : List (Landing File)). slice_get l j) (sym is) ∙ stands in
             elim (old.told j read had) [
               | inl serves ↦ (let there = is_at s history longer serves.0 same in
-                  inl (there.at, subst (λ (d : Database). Serves d (files ++ fresh) read) (sym there.same) (serves_longer (database_after s history serves.0) files fresh read serves.1)))
+                  inl (there.at, subst (λ (d : RowDatabase). Serves d (files ++ fresh) read) (sym there.same) (serves_longer (database_after s history serves.0) files fresh read serves.1)))
               | inr tells_it ↦ (let d = digest_reply (slice_get rs tells_it.0) tells_it.1 in
                   let k_below : tells_it.0 < length rs = slice_get_within rs tells_it.0 (Failed d.n (Damaged d.number d.page d.why)) d.is in
                   inr (tells_it.0, ap (failed_so_option is_digest) (get_front rs (r ∷ []) tells_it.0 k_below) ∙ tells_it.1, place_old old.place (length rs) new tells_it.0 k_below ∙ tells_it.2))
@@ -230,7 +230,7 @@ damage_next {File} tells s history longer rs r files fresh landed more after new
     }
 
 -- a history that goes on keeps what was there
-pub history_kept : (s : Script) (x : Statement) (max : ℕ) (known : Type 0) (before new : Database) (history longer : List Entry) (r : Reply) → Settles x max known before history r new longer
+pub history_kept : (s : Script) (x : Statement) (max : ℕ) (known : Type 0) (before new : RowDatabase) (history longer : List Entry) (r : Reply) → Settles x max known before history r new longer
     → (n : ℕ) → n ≤ length history → database_after s longer n ≡ database_after s history n
 history_kept s x max known before new history longer (Done at what) settles n le = rw settles.is_longer (database_after-kept s history settles.entry n le)
 history_kept s x max known before new history longer (Rows at rows) settles n le = rw settles.0.same_history refl
@@ -238,7 +238,7 @@ history_kept s x max known before new history longer (Refused at cause) settles 
 history_kept s x max known before new history longer (Failed at cause) settles n le = rw settles.0.same_history refl
 
 -- a place among what landed that is new where there is none yet
-abbrev new_place : {File : Type 0} (tells : Bool) (s : Database) (files : List File) (before now : PortSeen File) (r : Reply) → RepliedBy tells s files before now r → ℕ
+abbrev new_place : {File : Type 0} (tells : Bool) (s : RowDatabase) (files : List File) (before now : PortSeen File) (r : Reply) → RepliedBy tells s files before now r → ℕ
 new_place tells s files before now (Done at what) by = length before.reading.landings
 new_place tells s files before now (Rows at rows) by = length before.reading.landings
 new_place tells s files before now (Refused at cause) by = length before.reading.landings
@@ -247,7 +247,7 @@ new_place tells s files before now (Failed at Write) by = length before.reading.
 new_place tells s files before now (Failed at (Damaged number page why)) by = by.1.place
 new_place tells s files before now (Failed at Memory) by = length before.reading.landings
 
-place_since : {File : Type 0} (tells : Bool) (s : Database) (files : List File) (before now : PortSeen File) (r : Reply) (by : RepliedBy tells s files before now r) → length before.reading.landings ≤ new_place tells s files before now r by
+place_since : {File : Type 0} (tells : Bool) (s : RowDatabase) (files : List File) (before now : PortSeen File) (r : Reply) (by : RepliedBy tells s files before now r) → length before.reading.landings ≤ new_place tells s files before now r by
 place_since tells s files before now (Done at what) by = le_refl (length before.reading.landings)
 place_since tells s files before now (Rows at rows) by = le_refl (length before.reading.landings)
 place_since tells s files before now (Refused at cause) by = le_refl (length before.reading.landings)
@@ -257,7 +257,7 @@ place_since tells s files before now (Failed at (Damaged number page why)) by = 
 place_since tells s files before now (Failed at Memory) by = le_refl (length before.reading.landings)
 
 -- the last reply, where it is one of damage, stands on a new read
-last_stands : {File : Type 0} (tells : Bool) (s : Database) (files : List File) (port now : PortSeen File) (r : Reply) (by : RepliedBy tells s files port now r)
+last_stands : {File : Type 0} (tells : Bool) (s : RowDatabase) (files : List File) (port now : PortSeen File) (r : Reply) (by : RepliedBy tells s files port now r)
     → (n number page : ℕ) (why : Why) → r ≡ Failed n (Damaged number page why) → StandsOn tells s files now.reading.landings (new_place tells s files port now r by) number page why
 last_stands tells s files port now (Done at what) by n number page why e = absurd cc
 last_stands tells s files port now (Rows at rows) by n number page why e = absurd cc
@@ -272,7 +272,7 @@ last_stands tells s files port now (Failed at (Damaged chunk place because)) by 
 last_stands tells s files port now (Failed at Memory) by n number page why e = absurd cc
 
 -- and the length that it tells is the history's
-last_number : (s : Script) (x : Statement) (max : ℕ) (known : Type 0) (before new : Database) (history longer : List Entry) (r : Reply) → Settles x max known before history r new longer
+last_number : (s : Script) (x : Statement) (max : ℕ) (known : Type 0) (before new : RowDatabase) (history longer : List Entry) (r : Reply) → Settles x max known before history r new longer
     → (n number page : ℕ) (why : Why) → r ≡ Failed n (Damaged number page why) → n ≡ length history
 last_number s x max known before new history longer (Done at what) settles n number page why e = absurd cc
 last_number s x max known before new history longer (Rows at rows) settles n number page why e = absurd cc
@@ -283,13 +283,13 @@ told_digest : (at number page : ℕ) (why : Why) → is_digest_why why ≡ true 
 told_digest at number page why e = e
 
 -- over more files
-stands_more : {File : Type 0} (tells : Bool) (s : Database) (files new : List File) (landed : List (Landing File)) (place number page : ℕ) (why : Why)
+stands_more : {File : Type 0} (tells : Bool) (s : RowDatabase) (files new : List File) (landed : List (Landing File)) (place number page : ℕ) (why : Why)
     → StandsOn tells s files landed place number page why → StandsOn tells s (files ++ new) landed place number page why
 stands_more tells s files new landed place number page why on =
     stands_longer tells s files new landed [] landed place number page why (sym (append-nil landed)) on
 
 -- each read that landed for the last reply serves, or the reply tells it
-last_told : {File : Type 0} (tells : Bool) (s : Database) (files : List File) (port now : PortSeen File) (r : Reply) (by : RepliedBy tells s files port now r)
+last_told : {File : Type 0} (tells : Bool) (s : RowDatabase) (files : List File) (port now : PortSeen File) (r : Reply) (by : RepliedBy tells s files port now r)
     → (j : ℕ) (read : Landing File) → length port.reading.landings ≤ j → slice_get now.reading.landings j ≡ Some read
     → Serves s files read ⊎ ((j ≡ new_place tells s files port now r by) × (failed_so is_digest r ≡ true))
 last_told tells s files port now (Done at what) by j read since stands = inl (by.1 j read since stands)
@@ -308,7 +308,7 @@ pub record CausedOver {File : Type 0} (tells : Bool) (s : Script) (history : Lis
   pub files_are : causes.files ≡ files
 
 -- one more statement is answered
-pub caused_next : {File : Type 0} (tells : Bool) (s : Script) (xs : List Statement) (x : Statement) (max : ℕ) (known : Type 0) (before new : Database) (history longer : List Entry) (rs : List Reply) (r : Reply) (port now : PortSeen File) (fresh : List File)
+pub caused_next : {File : Type 0} (tells : Bool) (s : Script) (xs : List Statement) (x : Statement) (max : ℕ) (known : Type 0) (before new : RowDatabase) (history longer : List Entry) (rs : List Reply) (r : Reply) (port now : PortSeen File) (fresh : List File)
     → Kept s xs max known before history rs → (causes : CausedSoFar tells s history rs port) → Settles x max known before history r new longer → new ≡ database_after s longer (length longer)
     → length (causes.files ++ fresh) ≡ new.made → RepliedBy tells before causes.files port now r → GoesOn port now → CausedOver tells s longer (rs ++ r ∷ []) now (causes.files ++ fresh)
 caused_next tells s xs x max known before new history longer rs r port now fresh kept causes settles is count by goes =
@@ -317,17 +317,17 @@ caused_next tells s xs x max known before new history longer rs r port now fresh
     let here : before ≡ database_after s longer (length history) = kept.database ∙ sym (same (length history) (le_refl (length history))) in
     let next : CausedSoFar tells s longer (rs ++ r ∷ []) now = record {
       files = files ++ fresh;
-      count = count ∙ ap (λ (d : Database). d.made) is;
+      count = count ∙ ap (λ (d : RowDatabase). d.made) is;
       idle = record { room = (let a : now.reading.room ≡ port.reading.room = goes.reads.room in let b : 0 < port.reading.room = causes.idle.room in omega arith); none = goes.reads.none; empty = goes.empty };
       reads = rose_with_next (failed_so is_read) rs r port.reading.read_faults now.reading.read_faults causes.reads goes.reads.faults (read_rose tells before files port now r by) (read_still tells before files port now r by);
       writes = rose_with_next (failed_so is_write) rs r port.write_faults now.write_faults causes.writes goes.faults (write_rose tells before files port now r by) (write_still tells before files port now r by);
       damage = damage_next tells s history longer rs r files fresh port.reading.landings goes.reads.more now.reading.landings (new_place tells before files port now r by) causes.damage kept.legal.within
           same goes.reads.landed (place_since tells before files port now r by)
           (λ n number page why e. (let at : n ≡ length history = last_number s x max known before new history longer r settles n number page why e in
-          subst (λ (d : Database). StandsOn tells d (files ++ fresh) now.reading.landings (new_place tells before files port now r by) number page why) (here ∙ ap (database_after s longer) (sym at))
+          subst (λ (d : RowDatabase). StandsOn tells d (files ++ fresh) now.reading.landings (new_place tells before files port now r by) number page why) (here ∙ ap (database_after s longer) (sym at))
           (stands_more tells before files fresh now.reading.landings (new_place tells before files port now r by) number page why (last_stands tells before files port now r by n number page why e))))
           (λ j read since stands. elim (last_told tells before files port now r by j read since stands) [
-            | inl serves ↦ inl (length history, subst (λ (d : Database). Serves d (files ++ fresh) read) here (serves_longer before files fresh read serves))
+            | inl serves ↦ inl (length history, subst (λ (d : RowDatabase). Serves d (files ++ fresh) read) here (serves_longer before files fresh read serves))
             | inr told ↦ inr told
           ]);
     } in

@@ -1,12 +1,16 @@
 -- The first script's outcome, statement by statement.
-use Rattle.std.proofs.Common.{◌≡◌, ℕ, zero, suc, ◌+◌, ◌≤◌, true, false, List, [], ◌∷◌, Option, Some, None, inr, refl, rules, sym, ◌∙◌, ap, subst, arith, codes, pos, map, if◌then◌else◌}
-use Rattle.std.specs.List.{All, slice_get}
+use Rattle.std.proofs.Common.{◌≡◌, Bool, Ok, ltb, ltb-true, lit<, ℕ, zero, suc, ◌+◌, ◌≤◌, true, false, List, [], ◌∷◌, Option, Some, None, inr, refl, rules, sym, ◌∙◌, ap, subst, arith, codes, pos, map, if◌then◌else◌}
+use Rattle.std.specs.List.{All, list_all, slice_get}
+use Rattle.std.specs.Prelude.{IsUtf8}
+use Rattle.std.proofs.lemmas.Bool.{and_parts}
 use Rattle.std.specs.List.Sorted.{IsPermutation}
 use Rattle.std.specs.Option.{option_or}
-use Rattle.std.specs.Str.{is_utf8}
-use Rattle.std.proofs.lemmas.Str.{is_utf8-from_IsUtf8}
+use Rattle.std.specs.Str.{IsAscii, is_utf8}
+use Rattle.std.proofs.lemmas.Str.{IsUtf8-from_ascii, is_utf8-from_IsUtf8}
 use Rattle.std.proofs.lemmas.List.{take_all}
 use Rattle.std.proofs.lemmas.List.Sorted.{IsPermutation-refl, All-permutation}
+use Rattle.csv.specs.Reading.{records_from, strip_bom}
+use Rattle.csv.specs.Machine.{next_record}
 use Rattle.hv_row.specs.declared.value.Value.{Value}
 use Rattle.hv_row.specs.Row.{RowFits, row_bytes}
 use Rattle.hv_page.specs.Layout.{written_version}
@@ -14,12 +18,9 @@ use Rattle.hv_page.specs.Chunk.{IsPacked, heap_pages_from, AreHeapPages}
 use Rattle.hv_chunk.proofs.Packing.{pages_once}
 use Rattle.hv_view.specs.Known.{NoneForged}
 use Rattle.hv_model.specs.declared.script.Statement.{Statement}
-use Rattle.hv_model.specs.declared.catalogue.Chunk.{Chunk}
-use Rattle.hv_model.specs.declared.catalogue.Table.{Table}
 use Rattle.hv_model.specs.declared.catalogue.Entry.{Entry}
 use Rattle.hv_model.specs.declared.query.Cell.{Cell}
 use Rattle.hv_model.specs.declared.query.Cell.TheVariants.{Num, Txt}
-use Rattle.hv_model.specs.declared.catalogue.Database.{Database}
 use Rattle.hv_model.specs.declared.catalogue.TableHead.{TableHead}
 use Rattle.hv_model.specs.declared.catalogue.Command.TheVariants.{Create, Import}
 use Rattle.hv_model.specs.declared.reply.Reply.TheVariants.{Done, Rows}
@@ -33,10 +34,11 @@ use Rattle.hv_model.specs.declared.query.Cond.{Cond}
 use Rattle.hv_model.specs.declared.query.Cond.TheVariants.{Always}
 use Rattle.hv_model.specs.declared.query.BoundQuery.{BoundQuery}
 use Rattle.hv_model.specs.Parsed.{some_tree}
-use Rattle.hv_model.specs.Bound.{first_of, cond_step, cond_of, refusal_step, cond_refusal, bound_query}
+use Rattle.hv_model.specs.Causes.{first_of}
+use Rattle.hv_model.specs.Bound.{cond_step, cond_of, refusal_step, cond_refusal, bound_query}
 use Rattle.hv_model.specs.Selected.{heads_of, select_refusal, unless_refused}
-use Rattle.hv_model.specs.Command.{command_of, command_at, query_of, bound, text_refusal, early_refusal, empty_refusal, refusal, database_after, replay_from}
-use Rattle.hv_model.specs.Database.{empty_database, with_table, with_chunk}
+use Rattle.hv_model.specs.Command.{text_command, command_at, query_of, bound, text_refusal, early_refusal, empty_refusal, refusal, database_after, replay_from}
+use Rattle.hv_model.specs.Database.{RowChunk, RowTable, RowDatabase, empty_database, with_table, with_chunk}
 use Rattle.hv_model.specs.Query.{loops, loops_over, out, row_out}
 use Rattle.hv_model.specs.Answer.{IsAnswer, is_empty_aggregate}
 use Rattle.hv_model.specs.Legal.{Legal, Answered}
@@ -47,7 +49,18 @@ use Rattle.hv_model.proofs.Whole.{legal_whole}
 use Rattle.oodb.specs.Known.{Known, NoneForgedIn}
 use Rattle.oodb.specs.FirstScript as first
 use Rattle.oodb.proofs.FirstTrees.{create_parsed, import_parsed, selected, select_parsed}
-use Rattle.oodb.proofs.ImportLaws.{small_text}
+
+-- bytes below 128 are text
+abbrev small : ℕ → Bool
+small b = ltb b 128
+
+ascii : (bs : List ℕ) → list_all small bs ≡ true → IsAscii bs
+ascii [] e i = lit< tt
+ascii (b ∷ bs) e zero = ltb-true b 128 (and_parts (small b) (list_all small bs) e).0
+ascii (b ∷ bs) e (suc i) = ascii bs (and_parts (small b) (list_all small bs) e).1 i
+
+small_text : (bs : List ℕ) → list_all small bs ≡ true → IsUtf8 bs
+small_text bs e = IsUtf8-from_ascii bs (ascii bs e)
 
 -- the statements have their session and numbers
 pub record HasPlace (k : ℕ) (x : Statement) : Type 0 where
@@ -64,21 +77,22 @@ one_session : IsOneSession first.script first.statements
 one_session = record { sessions = refl; phases = refl; of_main = (λ k x e. (placed k x e).session); numbers = (λ k x e. (placed k x e).number) }
 
 -- the database after CREATE, and after IMPORT
-abbrev created : Database
+abbrev created : RowDatabase
 created = with_table (codes "t") first.schema empty_database
 
-abbrev filled : Database
+abbrev filled : RowDatabase
 filled = with_chunk 0 (record { name = codes "t"; schema = first.schema; chunks = [] }) (first.row ∷ []) created
 
 -- the commands of the first two statements
-create_command : command_at first.create empty_database ≡ Some (Create (codes "t") first.schema)
-create_command = ap (λ tree. command_of (some_tree tree) [] empty_database) create_parsed
+create_command : command_at first.create empty_database ≡ Ok (Create (codes "t") first.schema)
+create_command = ap (λ read. text_command (λ rows. rows) read [] empty_database) create_parsed
 
 text : is_utf8 (codes "a") ≡ true
 text = is_utf8-from_IsUtf8 (codes "a") (small_text (codes "a") refl)
 
-import_command : command_at first.import created ≡ Some (Import (codes "t") (first.row ∷ []))
-import_command = ap (λ tree. command_of (some_tree tree) (codes "1,a\n") created) import_parsed ∙ rw text refl
+import_command : command_at first.import created ≡ Ok (Import (codes "t") (first.row ∷ []))
+unfolding records_from strip_bom next_record
+import_command = ap (λ read. text_command (λ rows. rows) read (codes "1,a\n") created) import_parsed ∙ rw text refl
 
 after_create : (known : Type 0) (max : ℕ) → Kept first.script first.statements max known created (first.made ∷ []) (Done 1 (detail.Create (codes "t")) ∷ [])
 after_create known max = kept_next first.script first.statements max known empty_database created [] (first.made ∷ []) [] first.create (Done 1 (detail.Create (codes "t"))) one_session
@@ -135,7 +149,7 @@ select_bound : bound first.select filled ≡ Some query
 select_bound = ap (λ tree. query_of (some_tree tree) filled) select_parsed ∙ ap (λ (r : Option Refusal). unless_refused r query) select_unrefused
 
 select_early : early_refusal first.select filled ≡ None
-select_early = ap (λ tree. text_refusal tree [] filled) select_parsed ∙ select_unrefused
+select_early = ap (λ tree. text_refusal (λ rows. rows) tree [] filled) select_parsed ∙ select_unrefused
 
 -- it lists the one row
 abbrev combos : List (List (List Value))
@@ -184,7 +198,7 @@ after_one =
 
 after_two : (n : ℕ) → database_after first.script first.history (suc (suc n)) ≡ filled
 after_two n = let kept = after_import (Unit {0}) 0 in
-    ap (λ (entries : List Entry). replay_from first.script empty_database entries) (take_all (suc (suc n)) first.history (omega arith)) ∙ sym kept.database
+    ap (λ (entries : List Entry). replay_from (λ rows. rows) first.script empty_database entries) (take_all (suc (suc n)) first.history (omega arith)) ∙ sym kept.database
 
 -- the row fits the columns
 row_fits : RowFits first.schema first.row
@@ -218,29 +232,29 @@ unforged pages are (suc page) bytes at zero read landed digest =
 unforged pages are page bytes at (suc place) read landed digest = absurd cc
 
 -- the tables and chunks of the databases
-abbrev table_with : List Chunk → Table
+abbrev table_with : List RowChunk → RowTable
 table_with chunks = record { name = codes "t"; schema = first.schema; chunks = chunks }
 
-abbrev only_chunk : Chunk
-only_chunk = record { number = 1; rows = first.row ∷ [] }
+abbrev only_chunk : RowChunk
+only_chunk = record { number = 1; content = first.row ∷ [] }
 
-none_in : (at : ℕ) (table : Table) (place : ℕ) (chunk : Chunk) → slice_get (table_with [] ∷ []) at ≡ Some table → slice_get table.chunks place ≡ Some chunk → ⊥
+none_in : (at : ℕ) (table : RowTable) (place : ℕ) (chunk : RowChunk) → slice_get (table_with [] ∷ []) at ≡ Some table → slice_get table.chunks place ≡ Some chunk → ⊥
 none_in zero table place chunk stands has =
     let same : table_with [] ≡ table = cc in
-    let none : slice_get (table_with []).chunks place ≡ Some chunk = ap (λ (t : Table). slice_get t.chunks place) same ∙ has in cc
+    let none : slice_get (table_with []).chunks place ≡ Some chunk = ap (λ (t : RowTable). slice_get t.chunks place) same ∙ has in cc
 none_in (suc at) table place chunk stands has = cc
 
-unforged_in : (at : ℕ) (table : Table) (place : ℕ) (chunk : Chunk) → slice_get (table_with (only_chunk ∷ []) ∷ []) at ≡ Some table → slice_get table.chunks place ≡ Some chunk
-    → NoneForged written_version table.schema chunk.rows first.page_read
+unforged_in : (at : ℕ) (table : RowTable) (place : ℕ) (chunk : RowChunk) → slice_get (table_with (only_chunk ∷ []) ∷ []) at ≡ Some table → slice_get table.chunks place ≡ Some chunk
+    → NoneForged written_version table.schema chunk.content first.page_read
 unforged_in zero table zero chunk stands has =
     let of_table : table_with (only_chunk ∷ []) ≡ table = cc in
-    let first_of : slice_get (table_with (only_chunk ∷ [])).chunks 0 ≡ Some chunk = ap (λ (t : Table). slice_get t.chunks 0) of_table ∙ has in
+    let first_of : slice_get (table_with (only_chunk ∷ [])).chunks 0 ≡ Some chunk = ap (λ (t : RowTable). slice_get t.chunks 0) of_table ∙ has in
     let of_chunk : only_chunk ≡ chunk = cc in
-    subst (λ (t : Table). NoneForged written_version t.schema chunk.rows first.page_read) of_table
-    (subst (λ (c : Chunk). NoneForged written_version first.schema c.rows first.page_read) of_chunk unforged)
+    subst (λ (t : RowTable). NoneForged written_version t.schema chunk.content first.page_read) of_table
+    (subst (λ (c : RowChunk). NoneForged written_version first.schema c.content first.page_read) of_chunk unforged)
 unforged_in zero table (suc place) chunk stands has =
     let same : table_with (only_chunk ∷ []) ≡ table = cc in
-    let none : slice_get (table_with (only_chunk ∷ [])).chunks (suc place) ≡ Some chunk = ap (λ (t : Table). slice_get t.chunks (suc place)) same ∙ has in absurd cc
+    let none : slice_get (table_with (only_chunk ∷ [])).chunks (suc place) ≡ Some chunk = ap (λ (t : RowTable). slice_get t.chunks (suc place)) same ∙ has in absurd cc
 unforged_in (suc at) table place chunk stands has = absurd cc
 
 -- the premise of content is met by the read of the page

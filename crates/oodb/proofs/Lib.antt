@@ -1,11 +1,8 @@
 pub mod Answering
 pub mod SelectBinding
 pub mod CausedBack
-pub mod ImportLaws
 pub mod Reporting
 pub mod FirstTrees
-pub mod StoreChanges
-pub mod StoreLaws
 pub mod Knowing
 pub mod Steps
 pub mod TableReading
@@ -19,3 +16,7 @@ pub mod Statuses
 pub mod OverMemory
 pub mod ReadRows
 pub mod Landed
+pub mod HeldTables
+pub mod Refusing
+pub mod Carrying
+pub mod Columns

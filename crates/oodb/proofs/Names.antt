@@ -19,6 +19,7 @@ use Rattle.oodb.specs.Told.{report_of}
 detail_plain : (what : Detail) → IsPlain (told_table what) → DetailNamed what
 detail_plain (detail.Create table) plain = plain
 detail_plain (detail.Import table chunk rows) plain = plain
+detail_plain (detail.Purge table chunk) plain = plain
 
 -- a reply by its detail
 reply_plain : (r : Reply) → PlainReply r → ReplyNamed r

@@ -1,14 +1,15 @@
--- Steps of a statement over a store, one after another: what the port has behind them, and what a failure stands on.
+-- Steps of a statement over a catalogue, one after another: what the port has behind them, and what a failure stands on.
 use Rattle.std.proofs.Common.{◌≡◌, ℕ, ◌<◌, ◌≤◌, Bool, List, [], ◌++◌, length, Some, slice_get, Result, Ok, Err, IfErr, OnOk, inl, refl, sym, ap, subst, ◌∙◌, arith, length-append, append-nil}
 use Rattle.std.specs.Result.{IsErrAnd}
 use Rattle.hv_dev.specs.Reading.{Landing}
-use Rattle.hv_model.specs.declared.catalogue.Database.{Database}
+use Rattle.hv_model.specs.Database.{RowDatabase}
 use Rattle.hv_model.specs.declared.reply.Why.{Why}
 use Rattle.hv_model.specs.declared.reply.Failure.{Failure}
 use Rattle.hv_model.specs.declared.reply.Failure.TheVariants.{Read, Write, Damaged, Memory}
 use Rattle.hv_model.specs.declared.reply.Reply.{Reply}
 use Rattle.hv_model.specs.declared.reply.Reply.TheVariants.{Done, Rows, Refused, Failed}
-use Rattle.oodb.specs.declared.store.Store.{Store}
+use Rattle.hv_view.specs.View.{Viewed}
+use Rattle.hv_catalogue.specs.Holding.{Holding}
 use Rattle.oodb.specs.Stored.{database_of, AreFiles}
 use Rattle.oodb.specs.Reads.{PortSeen, IsIdle, GoesOn, ReadsOn}
 use Rattle.oodb.specs.Damage.{Serves, StandsOnNew, RepliedBy, IsUnfailed}
@@ -56,13 +57,13 @@ idle_still a b idle on = record {
 -- ---- steps that went well
 
 -- where no read was made and nothing failed all went well
-pub well_unread : {File : Type 0} (s : Store File) (before after : PortSeen File) → after.reading ≡ before.reading → after.write_faults ≡ before.write_faults → AllWell s before after
+pub well_unread : {File : Type 0} (s : Holding (Viewed File)) (before after : PortSeen File) → after.reading ≡ before.reading → after.write_faults ≡ before.write_faults → AllWell s before after
 well_unread s before after reading writes = record {
   still = record { reads = ap (λ r. r.read_faults) reading; writes = writes };
   serve = λ files are. none_since (λ place read. Serves (database_of s) files read) before.reading.landings after.reading.landings (ap (λ r. r.landings) reading);
 }
 
-pub well_both : {File : Type 0} (s : Store File) (a b c : PortSeen File) → GoesOn b c → AllWell s a b → AllWell s b c → AllWell s a c
+pub well_both : {File : Type 0} (s : Holding (Viewed File)) (a b c : PortSeen File) → GoesOn b c → AllWell s a b → AllWell s b c → AllWell s a c
 well_both s a b c on first second = record {
   still = record { reads = second.still.reads ∙ first.still.reads; writes = second.still.writes ∙ first.still.writes };
   serve = λ files are. both_since (λ place read. Serves (database_of s) files read) a.reading.landings b.reading.landings c.reading.landings on.reads.more on.reads.landed
@@ -72,11 +73,11 @@ well_both s a b c on first second = record {
 -- ---- steps that failed
 
 -- memory was wanting where all went well
-pub memory_over : {File : Type 0} (tells : Bool) (s : Store File) (before after : PortSeen File) → AllWell s before after → FailedOver tells s before after Memory
+pub memory_over : {File : Type 0} (tells : Bool) (s : Holding (Viewed File)) (before after : PortSeen File) → AllWell s before after → FailedOver tells s before after Memory
 memory_over tells s before after well files are = (well.still, well.serve files are)
 
 -- a read that landed since a later time landed since an earlier one, and all reads between serve
-stands_earlier : {File : Type 0} (tells : Bool) (s : Database) (files : List File) (a b c front back : List (Landing File)) (number page : ℕ) (why : Why) → b ≡ a ++ front → c ≡ b ++ back
+stands_earlier : {File : Type 0} (tells : Bool) (s : RowDatabase) (files : List File) (a b c front back : List (Landing File)) (number page : ℕ) (why : Why) → b ≡ a ++ front → c ≡ b ++ back
     → ((place : ℕ) (read : Landing File) → length a ≤ place → slice_get b place ≡ Some read → Serves s files read) → StandsOnNew tells s files b c number page why → StandsOnNew tells s files a c number page why
 stands_earlier tells s files a b c front back number page why longer longest serve new = record {
   place = new.place;
@@ -86,7 +87,7 @@ stands_earlier tells s files a b c front back number page why longer longest ser
 }
 
 -- a failure since a later time is one since an earlier one, where all went well between
-pub failed_later : {File : Type 0} (tells : Bool) (s : Store File) (a b c : PortSeen File) (cause : Failure) → GoesOn a b → GoesOn b c → AllWell s a b → ¬ (cause ≡ Write) → FailedOver tells s b c cause → FailedOver tells s a c cause
+pub failed_later : {File : Type 0} (tells : Bool) (s : Holding (Viewed File)) (a b c : PortSeen File) (cause : Failure) → GoesOn a b → GoesOn b c → AllWell s a b → ¬ (cause ≡ Write) → FailedOver tells s b c cause → FailedOver tells s a c cause
 failed_later tells s a b c Read first second well read failed files are = (
   rose_earlier a.reading.read_faults b.reading.read_faults c.reading.read_faults first.reads.faults (failed files are).0,
   (failed files are).1 ∙ well.still.writes,
@@ -104,28 +105,28 @@ failed_later tells s a b c Memory first second well read failed files are = (
 )
 
 -- memory is no write
-pub memory_reads : {File : Type 0} (tells : Bool) (s : Store File) (before after : PortSeen File) → AllWell s before after → (¬ (Memory ≡ Write)) × FailedOver tells s before after Memory
+pub memory_reads : {File : Type 0} (tells : Bool) (s : Holding (Viewed File)) (before after : PortSeen File) → AllWell s before after → (¬ (Memory ≡ Write)) × FailedOver tells s before after Memory
 memory_reads tells s before after well = ((λ is. cc), memory_over tells s before after well)
 
 -- steps that went well, and then one that failed
-pub reads_failed : {File : Type 0} (tells : Bool) (s : Store File) (a b c : PortSeen File) (cause : Failure) → GoesOn a b → GoesOn b c → AllWell s a b
+pub reads_failed : {File : Type 0} (tells : Bool) (s : Holding (Viewed File)) (a b c : PortSeen File) (cause : Failure) → GoesOn a b → GoesOn b c → AllWell s a b
     → (¬ (cause ≡ Write)) × FailedOver tells s b c cause → (¬ (cause ≡ Write)) × FailedOver tells s a c cause
 reads_failed tells s a b c cause first second well failed = (failed.0, failed_later tells s a b c cause first second well failed.0 failed.1)
 
 -- the same, where the failure is handed on
-pub failed_on : {File T : Type 0} (tells : Bool) (s : Store File) (a b c : PortSeen File) (r : Result T Failure) (cause : Failure) → IsErrAnd r (λ y. y ≡ cause) → GoesOn a b → GoesOn b c → AllWell s a b
+pub failed_on : {File T : Type 0} (tells : Bool) (s : Holding (Viewed File)) (a b c : PortSeen File) (r : Result T Failure) (cause : Failure) → IsErrAnd r (λ y. y ≡ cause) → GoesOn a b → GoesOn b c → AllWell s a b
     → (¬ (cause ≡ Write)) × FailedOver tells s b c cause → ReadsTables tells s a c r
 failed_on tells s a b c r cause is first second well failed =
     handed_on r cause (λ r. ReadsTables tells s a c r) is (reads_failed tells s a b c cause first second well failed)
 
 -- and want of memory behind steps that went well
-pub memory_on : {File T : Type 0} (tells : Bool) (s : Store File) (before after : PortSeen File) (r : Result T Failure) → IsErrAnd r (λ y. y ≡ Memory) → AllWell s before after → ReadsTables tells s before after r
+pub memory_on : {File T : Type 0} (tells : Bool) (s : Holding (Viewed File)) (before after : PortSeen File) (r : Result T Failure) → IsErrAnd r (λ y. y ≡ Memory) → AllWell s before after → ReadsTables tells s before after r
 memory_on tells s before after r is well = handed_on r Memory (λ r. ReadsTables tells s before after r) is (memory_reads tells s before after well)
 
 -- ---- an import
 
 -- one that failed has read nothing
-pub import_over : {T File : Type 0} (tells : Bool) (s : Store File) (before after : PortSeen File) (r : Result T Failure) → after.reading ≡ before.reading
+pub import_over : {T File : Type 0} (tells : Bool) (s : Holding (Viewed File)) (before after : PortSeen File) (r : Result T Failure) → after.reading ≡ before.reading
     → IfErr r (λ failure. IsUnbuilt failure before.write_faults after.write_faults) → IfErr r (λ cause. FailedOver tells s before after cause)
 import_over tells s before after (Ok x) reading by = tt
 import_over tells s before after (Err Read) reading by = absurd by
@@ -134,14 +135,14 @@ import_over tells s before after (Err (Damaged number page why)) reading by = ab
 import_over tells s before after (Err Memory) reading by = memory_over tells s before after (well_unread s before after reading by)
 
 -- so has one that went well
-pub import_well : {T File : Type 0} (s : Store File) (before after : PortSeen File) (r : Result T Failure) → after.reading ≡ before.reading → OnOk r (after.write_faults ≡ before.write_faults) → OnOk r (AllWell s before after)
+pub import_well : {T File : Type 0} (s : Holding (Viewed File)) (before after : PortSeen File) (r : Result T Failure) → after.reading ≡ before.reading → OnOk r (after.write_faults ≡ before.write_faults) → OnOk r (AllWell s before after)
 import_well s before after (Ok x) reading calm = well_unread s before after reading calm
 import_well s before after (Err cause) reading calm = tt
 
 -- ---- replies
 
 -- what a reply that says no failure stands on
-pub replied_well : {File : Type 0} (tells : Bool) (s : Store File) (before after : PortSeen File) (r : Reply) → IsUnfailed r → AllWell s before after
+pub replied_well : {File : Type 0} (tells : Bool) (s : Holding (Viewed File)) (before after : PortSeen File) (r : Reply) → IsUnfailed r → AllWell s before after
     → (files : List File) → AreFiles s files → RepliedBy tells (database_of s) files before after r
 replied_well tells s before after (Done at what) unfailed well files are = (well.still, well.serve files are)
 replied_well tells s before after (Rows at rows) unfailed well files are = (well.still, well.serve files are)

@@ -9,9 +9,7 @@ use Rattle.hv_page.specs.Fault.{heap_fault}
 use Rattle.hv_page.specs.Chunk.{AreHeapPages}
 use Rattle.hv_dev.specs.Reading.{Reading, Landing}
 use Rattle.hv_view.specs.View.{Viewed}
-use Rattle.hv_model.specs.declared.catalogue.Chunk.{Chunk}
-use Rattle.hv_model.specs.declared.catalogue.Table.{Table}
-use Rattle.hv_model.specs.declared.catalogue.Database.{Database}
+use Rattle.hv_model.specs.Database.{RowChunk, RowTable, RowDatabase}
 use Rattle.hv_model.specs.declared.reply.Why.{Why}
 use Rattle.hv_model.specs.declared.reply.Why.TheVariants.{Digest, Form}
 use Rattle.hv_model.specs.declared.reply.Failure.{Failure}
@@ -59,17 +57,17 @@ ReadsChunk tells number chunk before after (Err (Damaged told page why)) = (afte
 ReadsChunk tells number chunk before after (Err Memory) = AllServeChunk chunk before after
 
 -- a page of a chunk of a database, as it was written under the table's schema
-pub record WasWritten (s : Database) (number page : ℕ) (schema : List Column) (bytes : List ℕ) : Type 0 where
+pub record WasWritten (s : RowDatabase) (number page : ℕ) (schema : List Column) (bytes : List ℕ) : Type 0 where
   pub at : ℕ
-  pub table : Table
+  pub table : RowTable
   pub stands : slice_get s.tables at ≡ Some table
   pub place : ℕ
-  pub chunk : Chunk
+  pub chunk : RowChunk
   pub has : slice_get table.chunks place ≡ Some chunk
   pub numbered : chunk.number ≡ number
   pub schema_is : table.schema ≡ schema
   pub pages : List (List ℕ)
-  pub heap : AreHeapPages written_version schema pages chunk.rows
+  pub heap : AreHeapPages written_version schema pages chunk.content
   pub page_is : slice_get pages page ≡ Some bytes
 
 -- the file of the chunk of a number, among the files of all chunks ever made, by number from 1
@@ -77,7 +75,7 @@ abbrev pub IsFileOf : {File : Type 0} → List File → ℕ → File → Type 0
 IsFileOf files number file = (0 < number) × (slice_get files (number - 1) ≡ Some file)
 
 -- what a read brought has the digest of a page of a chunk of the database, and it is a read of that chunk's file
-pub record Serves {File : Type 0} (s : Database) (files : List File) (read : Landing File) : Type 0 where
+pub record Serves {File : Type 0} (s : RowDatabase) (files : List File) (read : Landing File) : Type 0 where
   pub number : ℕ
   pub schema : List Column
   pub written : List ℕ
@@ -86,7 +84,7 @@ pub record Serves {File : Type 0} (s : Database) (files : List File) (read : Lan
   pub digest : sha256 read.bytes ≡ sha256 written
 
 -- the read that landed at a place is of that chunk's file, and brought bytes that don't serve as a page of it; never where the files' type tells
-pub record StandsOn {File : Type 0} (tells : Bool) (s : Database) (files : List File) (landed : List (Landing File)) (place number page : ℕ) (why : Why) : Type 0 where
+pub record StandsOn {File : Type 0} (tells : Bool) (s : RowDatabase) (files : List File) (landed : List (Landing File)) (place number page : ℕ) (why : Why) : Type 0 where
   pub untold : ¬ (tells ≡ true)
   pub schema : List Column
   pub written : List ℕ
@@ -98,25 +96,25 @@ pub record StandsOn {File : Type 0} (tells : Bool) (s : Database) (files : List 
   pub because : IsWhy schema page (sha256 written) read.bytes why
 
 -- it landed since, and no other read since is passed over
-pub record StandsOnNew {File : Type 0} (tells : Bool) (s : Database) (files : List File) (before after : List (Landing File)) (number page : ℕ) (why : Why) : Type 0 where
+pub record StandsOnNew {File : Type 0} (tells : Bool) (s : RowDatabase) (files : List File) (before after : List (Landing File)) (number page : ℕ) (why : Why) : Type 0 where
   pub place : ℕ
   pub since : length before ≤ place
   pub on : StandsOn tells s files after place number page why
   pub others : AllSince (λ other read. Serves s files read ⊎ ((other ≡ place) × (is_digest_why why ≡ true))) before after
 
 -- each read that landed since serves
-abbrev pub AllServe : {File : Type 0} → Database → List File → PortSeen File → PortSeen File → Type 0
+abbrev pub AllServe : {File : Type 0} → RowDatabase → List File → PortSeen File → PortSeen File → Type 0
 AllServe s files before after = AllSince (λ place read. Serves s files read) before.reading.landings after.reading.landings
 
 -- what the failure of a statement over a database stands on, over what its port had before and has behind it; want of memory hides no fault
-abbrev pub FailedBy : {File : Type 0} → Bool → Database → List File → PortSeen File → PortSeen File → Failure → Type 0
+abbrev pub FailedBy : {File : Type 0} → Bool → RowDatabase → List File → PortSeen File → PortSeen File → Failure → Type 0
 FailedBy tells s files before after Read = Rose before.reading.read_faults after.reading.read_faults × (after.write_faults ≡ before.write_faults) × AllServe s files before after
 FailedBy tells s files before after Write = Rose before.write_faults after.write_faults × (after.reading ≡ before.reading)
 FailedBy tells s files before after (Damaged number page why) = IsStill before after × StandsOnNew tells s files before.reading.landings after.reading.landings number page why
 FailedBy tells s files before after Memory = IsStill before after × AllServe s files before after
 
 -- what a reply stands on: where it is no failure no read or write failed while its statement ran, and no page is passed over
-abbrev pub RepliedBy : {File : Type 0} → Bool → Database → List File → PortSeen File → PortSeen File → Reply → Type 0
+abbrev pub RepliedBy : {File : Type 0} → Bool → RowDatabase → List File → PortSeen File → PortSeen File → Reply → Type 0
 RepliedBy tells s files before after (Done at what) = IsStill before after × AllServe s files before after
 RepliedBy tells s files before after (Rows at rows) = IsStill before after × AllServe s files before after
 RepliedBy tells s files before after (Refused at cause) = IsStill before after × AllServe s files before after

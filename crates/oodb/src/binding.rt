@@ -1,98 +1,78 @@
-// The query of a select over the tables of the store.
-ghost use Rattle.std.specs.Prelude.{◌≡◌, ◌<◌, length, position, true, Some, IfOk, IfErr, IfSome};
+// The query of a select over the tables of the catalogue.
+ghost use Rattle.std.specs.Prelude.{◌≡◌, ◌≤◌, length, map, take, true, Some, IfOk, IfErr};
 ghost use Rattle.std.specs.List.{All};
 ghost use Rattle.hv_model.specs.Bound.{is_grouped};
+ghost use Rattle.hv_model.specs.Scope.{places_refusal};
 ghost use Rattle.hv_model.specs.Selected as spec;
 ghost use Rattle.hv_bind.specs.Cause.{IsFirstRefusal};
+ghost use Rattle.oodb.specs.Answer.{HoldsOn, TableStands};
 ghost use Rattle.oodb.specs.Stored.{database_of, IsSound};
 
-use crate::store::Store;
 use hv_bind::{BindFault, MAX_PLACES, bind, places};
+use hv_catalogue::{Catalogue, SnapFault};
+use hv_chunk::Chunk;
 use hv_dev::PageFile;
-use hv_model::{BoundQuery, PlaceAst, SelectAst, TableHead};
-use hv_row::Copied;
+use hv_model::{BoundQuery, PlaceAst, SelectAst};
+use hv_row::{Bytes, Copied};
+use hv_view::Snapshot;
 use std::alloc::{AllocError, Global};
 
-/// The query that a select means over the store's tables, or its first refusal but for what its rows decide.
-pub fn bind_select<F: PageFile>(
+/// A select's query, and the chunks of the table of each of its places.
+#[derive(Drop)]
+pub struct Selected<F> {
+    pub query: BoundQuery,
+    pub view: Snapshot<Chunk<F>>,
+}
+
+/// The query that a select means over the catalogue's tables with these, or its first refusal but for what its rows decide.
+pub fn select_tables<F: PageFile>(
     alloc: Global,
     select: &SelectAst,
-    store: &Store<F>,
-) -> Result<BoundQuery, BindFault>
+    catalogue: &Catalogue<Chunk<F>>,
+) -> Result<Selected<F>, BindFault>
     requires one_place { is_grouped select.now ≡ true → length select.now.places ≡ 1 }
-    requires sound { IsSound F.tells F.pages store.now }
-    ensures bound { IfOk result (λ q. spec.select_query select.now (database_of store.now) ≡ Some q) }
-    ensures within { IfOk result (λ q. All (λ at. at < length store.now.tables.items) q.places) }
-    ensures refused { IfErr result (λ fault. IsFirstRefusal (spec.select_refusal select.now (database_of store.now)) fault) }
+    requires sound { IsSound F.tells F.pages catalogue.now }
+    ensures bound { IfOk result (λ selected. spec.select_query select.now (database_of catalogue.now) ≡ Some selected.query) }
+    ensures paired { IfOk result (λ selected. length selected.view.tables ≡ length selected.query.places) }
+    ensures holds { IfOk result (λ selected. HoldsOn F.tells F.pages catalogue.now selected.query.places selected.view) }
+    ensures stands { IfOk result (λ selected. All (TableStands F.tells F.pages) selected.view.tables) }
+    ensures refused { IfErr result (λ fault. IsFirstRefusal (spec.select_refusal select.now (database_of catalogue.now)) fault) }
 {
-    let from = select.places.as_slice();
-    if let Some(cause) = places(select, first_absent(store, from)) {
+    let names = first_names(alloc, select.places.as_slice())?;
+    let taken = match catalogue.snapshot(alloc, names.as_slice()) {
+        Ok(taken) => taken,
+        Err(SnapFault::NoTable { place, .. }) => return Err(absent_fault(select, place)),
+        Err(SnapFault::Memory) => return Err(BindFault::Memory),
+    };
+    if let Some(cause) = places(select, None) {
         return Err(BindFault::Refused(cause));
     }
-    let heads = heads_of(alloc, store, from)?;
-    bind(alloc, select, heads.as_slice())
+    let query = bind(alloc, select, taken.heads.as_slice())?;
+    Ok(Selected {
+        query,
+        view: taken.view,
+    })
 }
 
-// The number, from 0, of the first among the first four places whose table doesn't stand.
-fn first_absent<F: PageFile>(store: &Store<F>, places: &[PlaceAst]) -> Option<u8>
-    ensures { result ≡ spec.first_absent (database_of store.now) places.now }
+// The names of the tables of the first places, as many as a select may have.
+fn first_names(alloc: Global, places: &[PlaceAst]) -> Result<Vec<Bytes>, AllocError>
+    ensures names { IfOk result (λ names. names.items ≡ map (λ p. p.table.name) (take 4 places.now)) }
+    ensures few { IfOk result (λ names. length names.items ≤ 4) }
 {
-    let at = absent_place(store, &places[..places.len().min(MAX_PLACES)])?;
-    Some(at as u8)
-}
-
-// The number, from 0, of the first of places whose table doesn't stand.
-fn absent_place<F: PageFile>(store: &Store<F>, places: &[PlaceAst]) -> Option<usize>
-    ensures place { result ≡ position (spec.is_absent (database_of store.now)) places.now }
-    ensures within { IfSome result (λ at. at < length places.now) }
-{
-    places.iter().position(|place| is_absent(store, place))
-}
-
-fn is_absent<F: PageFile>(store: &Store<F>, place: &PlaceAst) -> bool
-    ensures { result ≡ spec.is_absent (database_of store.now) place.now }
-{
-    store.table_number(&place.table.name).is_none()
-}
-
-// The heads of the tables of places, as far as they stand.
-fn heads_of<F: PageFile>(
-    alloc: Global,
-    store: &Store<F>,
-    places: &[PlaceAst],
-) -> Result<Vec<TableHead>, AllocError>
-    requires sound { IsSound F.tells F.pages store.now }
-    ensures heads { IfOk result (λ heads. heads.items ≡ spec.heads_of (database_of store.now) places.now) }
-    ensures within { IfOk result (λ heads. All (λ h. h.number < length store.now.tables.items) heads.items) }
-{
-    let mut heads = Vec::with_capacity(alloc, places.len())?;
-    for place in places {
-        if let Some(head) = head_named(alloc, store, place)? {
-            heads.push(head)?;
-        }
+    let first = &places[..places.len().min(MAX_PLACES)];
+    let mut names = Vec::with_capacity(alloc, first.len())?;
+    for place in first {
+        names.push(place.table.name.copy(alloc)?)?;
     }
-    Ok(heads)
+    Ok(names)
 }
 
-// The head of the table of a place, where it stands.
-fn head_named<F: PageFile>(
-    alloc: Global,
-    store: &Store<F>,
-    place: &PlaceAst,
-) -> Result<Option<TableHead>, AllocError>
-    requires sound { IsSound F.tells F.pages store.now }
-    ensures head { IfOk result (λ head. head ≡ spec.head_named (database_of store.now) place.now.table.name) }
-    ensures within { IfOk result (λ head. IfSome head (λ h. h.number < length store.now.tables.items)) }
+// Why a select has no query whose place of this number, from 0, is the first of which no table stands.
+fn absent_fault(select: &SelectAst, place: u8) -> BindFault
+    ensures { IsFirstRefusal (places_refusal select.now.places (Some place)) result }
 {
-    let Some(at) = store.table_number(&place.table.name) else {
-        return Ok(None);
-    };
-    // A history has no fewer entries than a database has tables, so the number of a table fits.
-    let _entries = store.length;
-    let table = &store.tables[at];
-    Ok(Some(TableHead {
-        number: at as u32,
-        name: table.name.copy(alloc)?,
-        schema: table.schema.copy(alloc)?,
-    }))
+    match places(select, Some(place)) {
+        Some(cause) => BindFault::Refused(cause),
+        None => BindFault::Memory,
+    }
 }

@@ -11,7 +11,7 @@ mod answer;
 mod answers;
 mod binding;
 mod build;
-mod import;
+mod command;
 mod law;
 mod lines;
 mod memory;
@@ -19,7 +19,6 @@ mod pages;
 mod report;
 mod run;
 mod status;
-mod store;
 mod tables;
 #[cfg(test)]
 mod tests;

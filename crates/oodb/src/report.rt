@@ -28,7 +28,7 @@ impl Blank {
 
     /// The report on an outcome of a script of that session.
     pub fn filled(self, outcome: Outcome) -> Report
-        ensures { result ≡ report_of outcome.history.items outcome.replies.items }
+        ensures { result ≡ report_of outcome.history outcome.replies.items }
     {
         let Blank { name, mut sessions } = self;
         let Outcome { history, replies } = outcome;
@@ -38,7 +38,7 @@ impl Blank {
         });
         Report {
             sessions: Listed::from_vec(sessions),
-            history: Listed::from_vec(history),
+            history,
             stats: None,
         }
     }

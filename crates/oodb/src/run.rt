@@ -18,7 +18,7 @@ ghost use Rattle.oodb.specs.Statuses.{TellsFault, IsNoScript, SinkRose, SinkKept
 ghost use Rattle.oodb.specs.declared.status.Status.TheVariants as status;
 
 use crate::access::PageAccess;
-use crate::answers::{Outcome, answer_all, statements};
+use crate::answers::{Outcome, Room, answer_all, statements};
 use crate::lines::{put_fault_line, put_word_line};
 use crate::report::Blank;
 use crate::status::Status;
@@ -103,7 +103,7 @@ fn report<K: Sink, D: Device>(alloc: Global, script: &Script, out: &mut K, dev: 
     ensures { ReportsOn D.Port.File.tells script.now result (seen K.Sink out.old) (seen K.Sink out.new) (D.returned dev.old) (D.returned dev.new) }
 {
     let phase = statements(script);
-    let Ok(room) = Outcome::with_room(alloc, phase.len()) else {
+    let Ok(room) = Room::new(alloc, phase.len()) else {
         return Status::Memory;
     };
     let Ok(blank) = Blank::new(alloc) else {
@@ -135,8 +135,8 @@ fn open_access<D: Device>(alloc: Global, dev: &mut D) -> Result<PageAccess<D::Po
 
 // Writes the report on an outcome of a script of one session.
 fn write_outcome<K: Sink>(blank: Blank, outcome: Outcome, out: &mut K) -> Status
-    ensures over { (script : Script) → HasOneSession script → WholeOrCut (report_text script outcome.history.items (outcome.replies.items ∷ [])) (status_of outcome.replies.items) result (seen K.Sink out.old) (seen K.Sink out.new) }
-    ensures in_range { InRange (report_of outcome.history.items outcome.replies.items) }
+    ensures over { (script : Script) → HasOneSession script → WholeOrCut (report_text script outcome.history (outcome.replies.items ∷ [])) (status_of outcome.replies.items) result (seen K.Sink out.old) (seen K.Sink out.new) }
+    ensures in_range { InRange (report_of outcome.history outcome.replies.items) }
 {
     let full = full_status(outcome.replies.as_slice());
     let report = blank.filled(outcome);

@@ -67,6 +67,8 @@ pub fn refusal_text(alloc: Global, refusal: Refusal) -> Result<String, Fail> {
         Refusal::TypeMismatch { byte } => write!(text, "type-mismatch {byte}")?,
         Refusal::NotGrouped { byte } => write!(text, "not-grouped {byte}")?,
         Refusal::NoOutput { byte } => write!(text, "no-output {byte}")?,
+        // A command's, which no select has.
+        _ => write!(text, "{refusal:?}")?,
     }
     Ok(text)
 }

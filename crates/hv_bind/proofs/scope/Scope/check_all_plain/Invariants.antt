@@ -1,6 +1,7 @@
 -- What is refused from here on is what is refused of all.
 use Rattle.std.proofs.Common.{◌≡◌, map, drop}
-use Rattle.hv_model.specs.Bound.{first_of, plain_refusal}
+use Rattle.hv_model.specs.Causes.{first_of}
+use Rattle.hv_model.specs.Bound.{plain_refusal}
 use Rattle.hv_bind.proofs.scope.Scope.check_all_plain.Given as goal
 
 abbrev pub invariant-loop-item : goal.invariant-loop-item

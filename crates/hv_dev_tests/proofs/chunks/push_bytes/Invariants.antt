@@ -1,0 +1,11 @@
+-- The builder has so many rows, and the open file's pages are its own.
+use Rattle.std.proofs.Common.{◌≡◌, Some, length}
+use Rattle.hv_dev_tests.proofs.chunks.push_bytes.Given as goal
+
+abbrev pub invariant-loop-number : goal.invariant-loop-number
+invariant-loop-number g l = record {
+  schema : l.builder.schema ≡ l.schema;
+  rows : length l.builder.rows ≡ l.number;
+  mine : g.P.PageSink.written l.port ≡ Some l.builder.pages;
+  kept : g.P.PageSink.reading l.port ≡ g.P.PageSink.reading l.fn.port;
+}

@@ -1,0 +1,5 @@
+CREATE TABLE t (a INT, b TEXT);
+IMPORT INTO t LINES 2;
+1,"x
+y"
+PURGE CHUNK 1 OF t;
