@@ -1,7 +1,16 @@
+pub mod Histories
 pub mod Places
 pub mod Premises
+pub mod SessionScripts
+pub mod SessionReplies
+pub mod SessionFacts
+pub mod SessionSteps
+pub mod SessionPhases
+pub mod SessionWorld
+pub mod ThreeSessions
 pub mod SoFar
 pub mod TokenLaws
 pub mod Whole
+pub mod OneOfMany
 pub mod QueryLaws
 pub mod Mapped

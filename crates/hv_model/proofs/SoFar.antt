@@ -1,11 +1,10 @@
 -- What holds of the replies so far holds of one more, where the statement's answer keeps its contract.
-use Rattle.std.proofs.Common.{◌≡◌, ◌⊎◌, ℕ, zero, suc, ◌+◌, ◌-◌, ◌<◌, ◌≤◌, ◌≢◌, List, [], ◌∷◌, ◌++◌, length, Some, Ok, inl, inr, refl, ap, sym, ◌∙◌, subst, arith, count_by, true, false, cond, eq-eqb, le_refl, add-one}
+use Rattle.std.proofs.Common.{◌≡◌, ℕ, zero, suc, ◌+◌, ◌-◌, ◌<◌, ◌≤◌, ◌≢◌, List, [], ◌∷◌, ◌++◌, length, Some, Ok, inl, inr, refl, ap, sym, ◌∙◌, subst, arith, count_by, true, false, cond, le_refl}
 use Rattle.std.specs.Prelude.{find, ◌==◌}
 use Rattle.std.specs.List.{slice_get}
 use Rattle.std.proofs.lemmas.Option.{slice_get_within}
 use Rattle.std.proofs.lemmas.Bool.{and_right, ne_eqb}
-use Rattle.std.proofs.lemmas.List.{append-nil, length_push, take-append-le}
-use Rattle.std.proofs.Math.Seq.{take-length}
+use Rattle.std.proofs.lemmas.List.{append-nil, length_push}
 use Rattle.std.proofs.lemmas.List.Sums.{fold-append}
 use Rattle.hv_row.specs.Schema.{same_name}
 use Rattle.hv_model.specs.declared.script.Statement.{Statement}
@@ -19,19 +18,12 @@ use Rattle.hv_model.specs.declared.reply.Reply.{Reply}
 use Rattle.hv_model.specs.declared.reply.Reply.TheVariants.{Done, Rows, Refused, Failed}
 use Rattle.hv_model.specs.Parsed.{tree_of}
 use Rattle.hv_model.specs.Database.{RowDatabase, RowCommand, step, empty_database}
-use Rattle.hv_model.specs.Command.{statements, statement_named, is_named, after_entry, command_at, database_after, entry_at}
-use Rattle.hv_model.specs.Legal.{number_of, is_done, Names, Accepted, Answered, IsRefusedFor, FollowsNumber, may_fail}
+use Rattle.hv_model.specs.Command.{statements, statement_named, is_named, after_entry, command_at, database_after}
+use Rattle.hv_model.specs.Legal.{number_of, is_done, Names, Accepted, Answered, IsRefusedFor, may_fail}
 use Rattle.hv_model.specs.OneSession.{IsOneSession, Commits, Stays, Settles, LegalSoFar, Kept}
 use Rattle.hv_model.proofs.Places.{slice_get-more, slice_get-kept, slice_get-last}
-
--- a name is the same as itself
-pub same_name-refl : (name : List ℕ) → same_name name name ≡ true
-same_name-refl [] = refl
-same_name-refl (b ∷ bs) = rw (eq-eqb b b refl) (same_name-refl bs)
-
--- an entry that names a statement passes the test
-pub named : (e : Entry) (x : Statement) → Names e x → is_named e x ≡ true
-named e x n = rw (n.session, n.number) (rw (same_name-refl x.session) (eq-eqb x.number x.number refl))
+use Rattle.hv_model.proofs.Histories.{named, database_after-more, entry_at-more, entry_at-kept, entry_at-last, follows, along_more, no_entry, same_at}
+pub use Rattle.hv_model.proofs.Histories.{database_after-kept}
 
 -- the search by number finds the statement
 find_numbered : (xs : List Statement) (from : ℕ) → ((k : ℕ) (x : Statement) → slice_get xs k ≡ Some x → x.number ≡ k + from)
@@ -58,80 +50,15 @@ pub statement_named-one : (s : Script) (xs : List Statement) → IsOneSession s 
 statement_named-one s xs one e k x stands names =
     rw (statements_one s xs one) (find_numbered xs 1 one.numbers e k x stands names)
 
--- an earlier database is what it was
-pub database_after-kept : (s : Script) (history : List Entry) (e : Entry) (n : ℕ) → n ≤ length history
-    → database_after s (history ++ e ∷ []) n ≡ database_after s history n
-database_after-kept s history e n le = rw (take-append-le n history (e ∷ []) le) refl
-
--- the database behind one more entry
-pub database_after-more : (s : Script) (history : List Entry) (e : Entry) → database_after s (history ++ e ∷ []) (length (history ++ e ∷ []))
-    ≡ after_entry (λ rows. rows) s (database_after s history (length history)) e
-database_after-more s history e =
-    rw (take-length (history ++ e ∷ []), take-length history, fold-append (after_entry (λ rows. rows) s) empty_database history (e ∷ [])) refl
-
 -- an entry whose statement has this command, which steps
 pub after_entry-steps : (s : Script) (xs : List Statement) → IsOneSession s xs → (before new : RowDatabase) (e : Entry) (k : ℕ) (x : Statement) (c : RowCommand)
     → slice_get xs k ≡ Some x → Names e x → command_at x before ≡ Ok c → step before c ≡ Ok new → after_entry (λ rows. rows) s before e ≡ new
 after_entry-steps s xs one before new e k x c stands names command steps =
     rw (statement_named-one s xs one e k x stands names) (rw command (rw steps refl))
 
--- an entry of a history that is one longer stood there before, or is the last
-pub record IsOldEntry (history : List Entry) (n : ℕ) (f : Entry) : Type 0 where
-  pub above : 0 < n
-  pub within : n ≤ length history
-  pub stands : entry_at history n ≡ Some f
-
-pub record IsLastEntry (history : List Entry) (e : Entry) (n : ℕ) (f : Entry) : Type 0 where
-  pub at : n ≡ length history + 1
-  pub same : e ≡ f
-
-entry_at-more : (history : List Entry) (e : Entry) (n : ℕ) (f : Entry) → entry_at (history ++ e ∷ []) n ≡ Some f → IsOldEntry history n f ⊎ IsLastEntry history e n f
-entry_at-more history e zero f at = absurd (cc)
-entry_at-more history e (suc n) f at =
-    elim (slice_get-more history e n f at) [
-      | inl old ↦ inl (record { above = omega arith; within = (let h : n < length history = old.below in omega arith); stands = old.stands })
-      | inr last ↦ inr (record { at = (let h : n ≡ length history = last.at in omega arith); same = last.same })
-    ]
-
-entry_at-kept : (history : List Entry) (e : Entry) (n : ℕ) (f : Entry) → entry_at history n ≡ Some f → entry_at (history ++ e ∷ []) n ≡ Some f
-entry_at-kept history e zero f at = absurd (cc)
-entry_at-kept history e (suc n) f at = slice_get-kept history e n f at
-
-entry_at-last : (history : List Entry) (e : Entry) (n : ℕ) → n ≡ length history + 1 → entry_at (history ++ e ∷ []) n ≡ Some e
-entry_at-last history e n is = rw is (rw add-one (slice_get-last history e))
-
--- a reply that isn't Done, with a number not below n, may follow n
-follows : (n : ℕ) (r : Reply) → is_done r ≡ false → n ≤ number_of r → FollowsNumber n r
-follows n (Done at what) not_done le = absurd (cc)
-follows n (Rows at rows) not_done le = le
-follows n (Refused at cause) not_done le = le
-follows n (Failed at cause) not_done le = le
-
 -- the count of Done replies with one more
 counted_more : (rs : List Reply) (r : Reply) → count_by is_done (rs ++ r ∷ []) ≡ count_by is_done rs + cond (is_done r) 1 0
 counted_more rs r = rw (fold-append (λ (a : ℕ) (x : Reply). a + cond (is_done x) 1 0) 0 rs (r ∷ [])) refl
-
--- one more reply along the session, with a number that follows each earlier one
-along_more : (rs : List Reply) (r : Reply) (most : ℕ)
-    → ((j k : ℕ) (p q : Reply) → j < k → slice_get rs j ≡ Some p → slice_get rs k ≡ Some q → FollowsNumber (number_of p) q)
-    → ((k : ℕ) (p : Reply) → slice_get rs k ≡ Some p → number_of p ≤ most)
-    → ((n : ℕ) → n ≤ most → FollowsNumber n r)
-    → (j k : ℕ) (p q : Reply) → j < k → slice_get (rs ++ r ∷ []) j ≡ Some p → slice_get (rs ++ r ∷ []) k ≡ Some q → FollowsNumber (number_of p) q
-along_more rs r most along within next j k p q below at_j at_k =
-    elim (slice_get-more rs r j p at_j) [
-      | inl first ↦ elim (slice_get-more rs r k q at_k) [
-        | inl second ↦ along j k p q below first.stands second.stands
-        | inr last ↦ subst (λ (s : Reply). FollowsNumber (number_of p) s) last.same (next (number_of p) (within j p first.stands))
-      ]
-      | inr first ↦ elim (slice_get-more rs r k q at_k) [
-        | inl second ↦ absurd (let a : j ≡ length rs = first.at in let b : k < length rs = second.below in omega arith)
-        | inr last ↦ absurd (let a : j ≡ length rs = first.at in let b : k ≡ length rs = last.at in omega arith)
-      ]
-    ]
-
--- a place has one statement
-same_at : (xs : List Statement) (n k : ℕ) (x y : Statement) → slice_get xs n ≡ Some x → slice_get xs k ≡ Some y → k ≡ n → x ≡ y
-same_at xs n k x y at_n at_k same = let e : slice_get xs n ≡ Some y = subst (λ (m : ℕ). slice_get xs m ≡ Some y) same at_k in cc
 
 -- a reply that changes nothing
 stays_more : (s : Script) (xs : List Statement) (max : ℕ) (known : Type 0) (history : List Entry) (rs : List Reply) (x : Statement) (r : Reply)
@@ -305,11 +232,6 @@ kept_next s xs max known before new history longer rs x (Failed at cause) one ke
     (λ n rows e. absurd cc)
     (λ n other e. absurd cc)
     (λ n other e. let same : cause ≡ other = cc in subst (λ (z : Failure). may_fail (tree_of x.text) z ≡ true) same settles.1)
-
--- an empty history has no entry
-no_entry : (n : ℕ) (e : Entry) → entry_at [] n ≡ Some e → ⊥
-no_entry zero e at = cc
-no_entry (suc n) e at = cc
 
 -- before the first statement
 pub kept_start : (s : Script) (xs : List Statement) (max : ℕ) (known : Type 0) → Kept s xs max known empty_database [] []

@@ -1,5 +1,5 @@
 -- When the last statement is answered, what held so far is a legal outcome.
-use Rattle.std.proofs.Common.{◌≡◌, ℕ, zero, suc, ◌+◌, ◌-◌, ◌<◌, ◌≤◌, List, [], ◌∷◌, length, Option, Some, refl, ap, sym, ◌∙◌, arith, Bool, cond, fold, IsSome, rules}
+use Rattle.std.proofs.Common.{◌≡◌, ℕ, zero, suc, ◌+◌, ◌-◌, ◌<◌, ◌≤◌, List, [], ◌∷◌, length, Option, Some, refl, ap, sym, ◌∙◌, arith, Bool, cond, fold}
 use Rattle.std.specs.Prelude.{codes}
 use Rattle.std.specs.List.{slice_get}
 use Rattle.std.proofs.lemmas.Option.{slice_get_within}
@@ -12,7 +12,9 @@ use Rattle.hv_model.specs.declared.catalogue.Entry.{Entry}
 use Rattle.hv_model.specs.declared.reply.Reply.{Reply}
 use Rattle.hv_model.specs.declared.reply.Reply.TheVariants.{Done, Rows, Refused, Failed}
 use Rattle.hv_model.specs.Legal.{number_of, is_done, is_done_option, reply_to, done_before, Stands, EachOnce, Legal}
-use Rattle.hv_model.specs.OneSession.{IsOneSession, HasReply, HasEntry, LegalSoFar, Kept}
+use Rattle.hv_model.specs.Sessions.{HasEntry}
+use Rattle.hv_model.specs.OneSession.{IsOneSession, HasReply, LegalSoFar, Kept}
+use Rattle.hv_model.proofs.Places.{is_there}
 use Rattle.hv_model.proofs.SoFar.{statements_one}
 
 -- a statement of the script stands at a place of its one phase
@@ -44,7 +46,7 @@ count_same f (x ∷ xs) (r ∷ rs) a same agree =
     rw (agree 0 x refl) (count_same f xs rs (a + cond (is_done r) 1 0) (omega arith) (λ k y at. agree (suc k) y at))
 
 -- all statements are of the one session
-count_main : (xs : List Statement) (a : ℕ) → ((k : ℕ) (x : Statement) → slice_get xs k ≡ Some x → x.session ≡ codes "main")
+pub count_main : (xs : List Statement) (a : ℕ) → ((k : ℕ) (x : Statement) → slice_get xs k ≡ Some x → x.session ≡ codes "main")
     → fold (λ (n : ℕ) (x : Statement). n + cond (same_name x.session (codes "main")) 1 0) a xs ≡ a + length xs
 count_main [] a of_main = omega arith
 count_main (x ∷ xs) a of_main =
@@ -66,12 +68,6 @@ done_none s replies = refl
 only : (xs : List Statement) (p : ℕ) (phase : List Statement) → slice_get (xs ∷ []) p ≡ Some phase → (p ≡ 0) × (xs ≡ phase)
 only xs zero phase at = (refl, cc)
 only xs (suc p) phase at = absurd cc
-
--- there is an element below the length
-is_there : {X : Type 0} (xs : List X) (k : ℕ) → k < length xs → IsSome (slice_get xs k)
-is_there [] k below = absurd (omega arith)
-is_there (x ∷ xs) zero below = search rules
-is_there (x ∷ xs) (suc k) below = is_there xs k (omega arith)
 
 -- the one phase
 one_phase : (s : Script) (xs : List Statement) → IsOneSession s xs → (p : ℕ) (phase : List Statement) → slice_get s.phases p ≡ Some phase → (p ≡ 0) × (xs ≡ phase)

@@ -22,5 +22,8 @@ pub mod Bound
 pub mod Selected
 pub mod Command
 pub mod Legal
+pub mod Settled
+pub mod Sessions
+pub mod ThreeSessions
 pub mod OneSession
 pub mod Report

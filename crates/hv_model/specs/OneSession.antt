@@ -1,5 +1,5 @@
 -- A script of one session and one phase, whose statements are answered one after another: what each answer owes, and what holds behind each.
-use Rattle.std.specs.Prelude.{◌≡◌, ℕ, ◌+◌, ◌-◌, ◌<◌, ◌≤◌, true, List, [], ◌∷◌, ◌++◌, length, Some, Ok, codes, count_by, slice_get}
+use Rattle.std.specs.Prelude.{◌≡◌, ℕ, ◌+◌, ◌-◌, ◌<◌, ◌≤◌, true, List, [], ◌∷◌, length, Some, codes, count_by, slice_get}
 use Rattle.hv_model.specs.declared.script.Statement.{Statement}
 use Rattle.hv_model.specs.declared.script.Script.{Script}
 use Rattle.hv_model.specs.declared.catalogue.Detail.{Detail}
@@ -10,8 +10,10 @@ use Rattle.hv_model.specs.declared.reply.Refusal.{Refusal}
 use Rattle.hv_model.specs.declared.reply.Failure.{Failure}
 use Rattle.hv_model.specs.declared.query.Cell.{Cell}
 use Rattle.hv_model.specs.Parsed.{tree_of}
-use Rattle.hv_model.specs.Database.{RowDatabase, RowCommand, step}
-use Rattle.hv_model.specs.Command.{command_at, detail_of, database_after, entry_at}
+use Rattle.hv_model.specs.Database.{RowDatabase}
+use Rattle.hv_model.specs.Command.{database_after, entry_at}
+use Rattle.hv_model.specs.Sessions.{HasEntry}
+pub use Rattle.hv_model.specs.Settled.{Commits, Stays, Settles}
 use Rattle.hv_model.specs.Legal.{number_of, is_done, Names, Accepted, Answered, IsRefusedFor, FollowsNumber, may_fail}
 
 -- the script has the session `main` alone, and one phase of these statements, numbered from 1
@@ -21,31 +23,6 @@ pub record IsOneSession (s : Script) (xs : List Statement) : Type 0 where
   pub of_main : (k : ℕ) (x : Statement) → slice_get xs k ≡ Some x → x.session ≡ codes "main"
   pub numbers : (k : ℕ) (x : Statement) → slice_get xs k ≡ Some x → x.number ≡ k + 1
 
--- the command of a statement was accepted, and its entry is the last of the longer history
-pub record Commits (x : Statement) (before : RowDatabase) (history : List Entry) (at : ℕ) (what : Detail) (new : RowDatabase) (longer : List Entry) : Type 0 where
-  pub entry : Entry
-  pub names : Names entry x
-  pub told : entry.what ≡ what
-  pub is_longer : longer ≡ history ++ entry ∷ []
-  pub at_is : at ≡ length history + 1
-  pub command : RowCommand
-  pub is : command_at x before ≡ Ok command
-  pub steps : step before command ≡ Ok new
-  pub detail : what ≡ detail_of before command
-
--- nothing has changed, and the reply tells the present length
-pub record Stays (before : RowDatabase) (history : List Entry) (at : ℕ) (new : RowDatabase) (longer : List Entry) : Type 0 where
-  pub same_database : new ≡ before
-  pub same_history : longer ≡ history
-  pub at_is : at ≡ length history
-
--- what the answer to one statement owes: its reply, the database behind it and the history behind it
-abbrev pub Settles : Statement → ℕ → Type 0 → RowDatabase → List Entry → Reply → RowDatabase → List Entry → Type 0
-Settles x max known before history (Done at what) new longer = Commits x before history at what new longer
-Settles x max known before history (Rows at rows) new longer = Stays before history at new longer × Answered x before max known rows
-Settles x max known before history (Refused at cause) new longer = Stays before history at new longer × IsRefusedFor x before max known cause
-Settles x max known before history (Failed at cause) new longer = Stays before history at new longer × (may_fail (tree_of x.text) cause ≡ true)
-
 -- an entry names a statement that has its Done reply
 pub record HasReply (xs : List Statement) (replies : List Reply) (n : ℕ) (e : Entry) : Type 0 where
   pub place : ℕ
@@ -53,13 +30,6 @@ pub record HasReply (xs : List Statement) (replies : List Reply) (n : ℕ) (e : 
   pub stands : slice_get xs place ≡ Some statement
   pub names : Names e statement
   pub reply : slice_get replies place ≡ Some (Done n e.what)
-
--- a statement whose reply is Done has its entry
-pub record HasEntry (history : List Entry) (x : Statement) (n : ℕ) (what : Detail) : Type 0 where
-  pub entry : Entry
-  pub stands : entry_at history n ≡ Some entry
-  pub names : Names entry x
-  pub told : entry.what ≡ what
 
 -- what holds of the replies to the first statements: the parts of a legal outcome, by places
 pub record LegalSoFar (s : Script) (xs : List Statement) (max : ℕ) (known : Type 0) (history : List Entry) (replies : List Reply) : Type 0 where

@@ -15,7 +15,7 @@ mod tree;
 pub use catalogue::{
     Chunk, Chunks, Command, Database, Detail, Entries, Entry, StepRefusal, Table, TableHead, Tables,
 };
-pub use law::content_decides_nothing;
+pub use law::{barrier_is_met_and_missed, content_decides_nothing};
 pub use lexeme::{Keyword, Kind, Lexeme, Sort, Symbol, Token, Tokens, What};
 pub use query::{
     BoundQuery, Cell, ColRef, ColRefs, Combo, Combos, Cond, Item, Items, Operand, OutRow, OutRows,
