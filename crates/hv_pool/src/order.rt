@@ -170,7 +170,7 @@ pub fn reorder(tree: &mut [Node], slots: &[Slot], n: usize)
     set_leaf(tree, slots.len(), n, node_of(&slots[n]));
 }
 
-// A leaf changes, and each node above it tells what the two below it tell.
+// A leaf changes, and each node above it tells what the two below it tell. Above one that tells what it told nothing changes.
 fn set_leaf(tree: &mut [Node], count: usize, place: usize, leaf: Node)
     requires place { place < count }
     requires long { length tree.old ≡ 2 * count }
@@ -182,7 +182,12 @@ fn set_leaf(tree: &mut [Node], count: usize, place: usize, leaf: Node)
     tree[count + place] = leaf;
     let mut node = (count + place) / 2;
     while node > 0 {
-        tree[node] = join(tree[2 * node], tree[2 * node + 1]);
+        let told = tree[node];
+        let tells = join(tree[2 * node], tree[2 * node + 1]);
+        if tells.turn == told.turn && tells.waits == told.waits {
+            return;
+        }
+        tree[node] = tells;
         node /= 2;
     }
 }
