@@ -1,9 +1,9 @@
-// A tree over the places, whose root tells which may be taken first, and for which sessions a wait stands somewhere.
+// A tree of four below each over the places, whose root tells which may be taken first, and for which sessions a wait stands somewhere.
 ghost use Rattle.std.specs.Prelude.{◌≡◌, ℕ, ◌+◌, ◌-◌, ◌*◌, ◌<◌, ◌≤◌, ◌^◌, min, length, get_or, set, All, IfSome, IfNone, IfOk, true, false, replicate, bit_or};
 ghost use Rattle.std.specs.List.{count_by};
 ghost use Rattle.hv_pool.specs.declared.slot.Slot.{Slot};
 ghost use Rattle.hv_pool.specs.Slots.{is_open, waits_bit};
-ghost use Rattle.hv_pool.specs.Order.{node_of, no_node, joined, IsTree, IsOrdered, IsOrderedBut};
+ghost use Rattle.hv_pool.specs.Order.{node_of, no_node, fresh_node, inner_of, joined, told_below, IsTree, IsOrdered, IsOrderedBut};
 
 use crate::Slot;
 use crate::slot::has_wait;
@@ -21,9 +21,9 @@ pub struct Node {
 /// The tree over so many places, none of which has had a page.
 pub fn first_tree(alloc: Global, count: usize) -> Result<Vec<Node>, AllocError>
     requires { count < 2 ^ 32 }
-    ensures { IfOk result (λ tree. tree.items ≡ replicate (2 * count) no_node) }
+    ensures { IfOk result (λ tree. tree.items ≡ replicate (inner_of count + count) fresh_node) }
 {
-    vec![in alloc; Node { turn: 0, waits: 0 }; 2 * count]
+    vec![in alloc; Node { turn: 0, waits: 0 }; (count + 1) / 3 + count]
 }
 
 // The leaf of a place.
@@ -46,6 +46,30 @@ fn join(a: Node, b: Node) -> Node
         turn: if a.turn <= b.turn { a.turn } else { b.turn },
         waits: a.waits | b.waits,
     }
+}
+
+// A node, which tells nothing past the last.
+fn node_at(tree: &[Node], node: usize) -> Node
+    ensures { result ≡ get_or tree.now node no_node }
+{
+    if node < tree.len() {
+        return tree[node];
+    }
+    Node {
+        turn: u64::MAX,
+        waits: 0,
+    }
+}
+
+// What the four below a node tell together.
+fn tell_below(tree: &[Node], node: usize) -> Node
+    requires { node < length tree.now }
+    ensures { result ≡ told_below tree.now node }
+{
+    let first = 4 * node + 1;
+    let two = join(node_at(tree, first), node_at(tree, first + 1));
+    let three = join(two, node_at(tree, first + 2));
+    join(three, node_at(tree, first + 3))
 }
 
 /// The place that may be taken first: the one that came back longest ago.
@@ -88,29 +112,43 @@ fn walk_open(slots: &[Slot]) -> Option<usize>
 // The leaf that has the least turn of all nodes.
 fn first_leaf(tree: &[Node], count: usize) -> usize
     requires some { 0 < count }
-    requires long { length tree.now ≡ 2 * count }
-    requires tree { IsTree tree.now count }
+    requires long { length tree.now ≡ inner_of count + count }
+    requires tree { IsTree tree.now (inner_of count) }
     ensures within { result < count }
-    ensures least { (i : ℕ) → 1 ≤ i → i < 2 * count → (get_or tree.now (count + result) no_node).turn ≤ (get_or tree.now i no_node).turn }
+    ensures least { (i : ℕ) → i < length tree.now → (get_or tree.now (inner_of count + result) no_node).turn ≤ (get_or tree.now i no_node).turn }
 {
-    let mut node = 1;
-    while node < count {
-        node = lesser_below(tree, node);
+    let inner = tree.len() - count;
+    let mut node = 0;
+    while node < inner {
+        node = least_below(tree, node);
     }
-    node - count
+    node - inner
 }
 
-// The one of the two below a node that has the lesser turn.
-fn lesser_below(tree: &[Node], node: usize) -> usize
-    requires { 2 * node + 1 < length tree.now }
-    ensures below { (2 * node ≤ result) × (result ≤ 2 * node + 1) }
-    ensures least { (get_or tree.now result no_node).turn ≡ min (get_or tree.now (2 * node) no_node).turn (get_or tree.now (2 * node + 1) no_node).turn }
+// The one of the four below a node that has the least turn.
+fn least_below(tree: &[Node], node: usize) -> usize
+    requires { 4 * node + 1 < length tree.now }
+    ensures below { (node < result) × (result < length tree.now) }
+    ensures least { (get_or tree.now result no_node).turn ≡ (told_below tree.now node).turn }
 {
-    if tree[2 * node].turn <= tree[2 * node + 1].turn {
-        2 * node
-    } else {
-        2 * node + 1
+    let first = 4 * node + 1;
+    let two = lesser(tree, first, first + 1);
+    let three = lesser(tree, two, first + 2);
+    lesser(tree, three, first + 3)
+}
+
+// The one of two nodes that has the lesser turn. The second may be past the last.
+fn lesser(tree: &[Node], a: usize, b: usize) -> usize
+    requires { a < length tree.now }
+    ensures within { result < length tree.now }
+    ensures one { (min a b ≤ result) }
+    ensures least { (get_or tree.now result no_node).turn ≡ min (get_or tree.now a no_node).turn (get_or tree.now b no_node).turn }
+{
+    let turn = tree[a].turn;
+    if b >= tree.len() {
+        return a;
     }
+    if turn <= tree[b].turn { a } else { b }
 }
 
 /// A place for whose page the session waits.
@@ -120,10 +158,7 @@ pub fn find_waited(slots: &[Slot], tree: &[Node], who: u32) -> Option<usize>
     ensures found { IfSome result (λ n. (n < length slots.now) × ((d : Slot) → waits_bit who (get_or slots.now n d).waits ≡ true)) }
     ensures none { IfNone result (All (λ s. waits_bit who s.waits ≡ false) slots.now) }
 {
-    if slots.is_empty() {
-        return None;
-    }
-    if has_wait(tree[1].waits, who) {
+    if has_wait(node_at(tree, 0).waits, who) {
         return Some(waited_leaf(tree, slots.len(), who));
     }
     None
@@ -132,32 +167,39 @@ pub fn find_waited(slots: &[Slot], tree: &[Node], who: u32) -> Option<usize>
 // A leaf at which the session waits, as it does at the root.
 fn waited_leaf(tree: &[Node], count: usize, who: u32) -> usize
     requires who { who < 64 }
-    requires some { 0 < count }
-    requires long { length tree.now ≡ 2 * count }
-    requires tree { IsTree tree.now count }
-    requires root { waits_bit who (get_or tree.now 1 no_node).waits ≡ true }
+    requires long { length tree.now ≡ inner_of count + count }
+    requires tree { IsTree tree.now (inner_of count) }
+    requires root { waits_bit who (get_or tree.now 0 no_node).waits ≡ true }
     ensures within { result < count }
-    ensures waited { waits_bit who (get_or tree.now (count + result) no_node).waits ≡ true }
+    ensures waited { waits_bit who (get_or tree.now (inner_of count + result) no_node).waits ≡ true }
 {
-    let mut node = 1;
-    while node < count {
+    let inner = tree.len() - count;
+    let mut node = 0;
+    while node < inner {
         node = waited_below(tree, node, who);
     }
-    node - count
+    node - inner
 }
 
-// One of the two below a node at which the session waits, as it does at the node.
+// One of the four below a node at which the session waits, as it does at the node.
 fn waited_below(tree: &[Node], node: usize, who: u32) -> usize
     requires who { who < 64 }
-    requires within { 2 * node + 1 < length tree.now }
-    requires either { waits_bit who (bit_or (get_or tree.now (2 * node) no_node).waits (get_or tree.now (2 * node + 1) no_node).waits) ≡ true }
-    ensures below { (2 * node ≤ result) × (result ≤ 2 * node + 1) }
+    requires within { node < length tree.now }
+    requires one { waits_bit who (told_below tree.now node).waits ≡ true }
+    ensures below { node < result }
     ensures waited { waits_bit who (get_or tree.now result no_node).waits ≡ true }
 {
-    if has_wait(tree[2 * node].waits, who) {
-        return 2 * node;
+    let first = 4 * node + 1;
+    if has_wait(node_at(tree, first).waits, who) {
+        return first;
     }
-    2 * node + 1
+    if has_wait(node_at(tree, first + 1).waits, who) {
+        return first + 1;
+    }
+    if has_wait(node_at(tree, first + 2).waits, who) {
+        return first + 2;
+    }
+    first + 3
 }
 
 /// A place has another turn or other waits.
@@ -170,24 +212,33 @@ pub fn reorder(tree: &mut [Node], slots: &[Slot], n: usize)
     set_leaf(tree, slots.len(), n, node_of(&slots[n]));
 }
 
-// A leaf changes, and each node above it tells what the two below it tell. Above one that tells what it told nothing changes.
+// A leaf changes, and each node above it tells what the four below it tell. Above one that tells what it told nothing changes.
 fn set_leaf(tree: &mut [Node], count: usize, place: usize, leaf: Node)
     requires place { place < count }
-    requires long { length tree.old ≡ 2 * count }
-    requires tree { IsTree tree.old count }
+    requires long { length tree.old ≡ inner_of count + count }
+    requires tree { IsTree tree.old (inner_of count) }
     ensures length { length tree.new ≡ length tree.old }
-    ensures leaves { (n : ℕ) → n < count → get_or tree.new (count + n) no_node ≡ get_or (set tree.old (count + place) leaf) (count + n) no_node }
-    ensures tree { IsTree tree.new count }
+    ensures leaves { (n : ℕ) → n < count → get_or tree.new (inner_of count + n) no_node ≡ get_or (set tree.old (inner_of count + place) leaf) (inner_of count + n) no_node }
+    ensures tree { IsTree tree.new (inner_of count) }
 {
-    tree[count + place] = leaf;
-    let mut node = (count + place) / 2;
+    let mut node = tree.len() - count + place;
+    tree[node] = leaf;
     while node > 0 {
-        let told = tree[node];
-        let tells = join(tree[2 * node], tree[2 * node + 1]);
+        let above = node_above(node);
+        let told = tree[above];
+        let tells = tell_below(tree, above);
         if tells.turn == told.turn && tells.waits == told.waits {
             return;
         }
-        tree[node] = tells;
-        node /= 2;
+        tree[above] = tells;
+        node = above;
     }
+}
+
+// The node above another.
+fn node_above(node: usize) -> usize
+    requires { 0 < node }
+    ensures { (4 * result + 1 ≤ node) × (node ≤ 4 * result + 4) }
+{
+    (node - 1) / 4
 }

@@ -1,14 +1,13 @@
-use Rattle.std.proofs.Common.{◌≡◌, ◌*◌, ◌-◌, ◌<◌, ◌≤◌, get_or}
+use Rattle.std.proofs.Common.{◌≡◌, ◌-◌, ◌<◌, get_or, length}
 use Rattle.hv_pool.specs.Order.{no_node}
 use Rattle.hv_pool.proofs.order.first_leaf.Given as goal
 
 -- `node` has the root's turn
 abbrev pub invariant-loop-node : goal.invariant-loop-node
 invariant-loop-node l = record {
-  some : 1 ≤ l.node;
-  below : l.node < 2 * l.count;
-  same : (get_or l.tree l.node no_node).turn ≡ (get_or l.tree 1 no_node).turn;
+  within : l.node < length l.tree;
+  same : (get_or l.tree l.node no_node).turn ≡ (get_or l.tree 0 no_node).turn;
 }
 
 abbrev pub decreases-loop-node : goal.decreases-loop-node
-decreases-loop-node l = 2 * l.count - l.node
+decreases-loop-node l = length l.tree - l.node

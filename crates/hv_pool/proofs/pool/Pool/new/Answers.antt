@@ -1,11 +1,11 @@
-use Rattle.std.proofs.Common.{◌≡◌, ℕ, ◌*◌, ◌-◌, ◌^◌, ◌∙◌, List, replicate, length, drop, take, ◌++◌, sym, ap, subst, arith}
+use Rattle.std.proofs.Common.{◌≡◌, ℕ, ◌+◌, ◌*◌, ◌-◌, ◌^◌, ◌∙◌, List, replicate, length, drop, take, ◌++◌, sym, ap, subst, arith}
 use Rattle.std.proofs.lemmas.List.{take_at}
 use Rattle.std.proofs.lemmas.List.FromFn.{length-map-range_with_len}
 use Rattle.hv_frames.specs.Frames.{Framed}
 use Rattle.hv_pool.specs.declared.slot.Slot.{Slot}
 use Rattle.hv_pool.specs.Index.{IsIndexed}
 use Rattle.hv_pool.specs.declared.order.Node.{Node}
-use Rattle.hv_pool.specs.Order.{no_node, IsOrdered}
+use Rattle.hv_pool.specs.Order.{fresh_node, inner_of, IsOrdered}
 use Rattle.hv_pool.proofs.Ordered.{fresh_order}
 use Rattle.hv_pool.specs.Made.{owner_of, empty_slot}
 use Rattle.hv_pool.proofs.Indexed.{fresh_index}
@@ -43,7 +43,7 @@ invariant_of-result c =
       subst (λ (l : List Slot). IsIndexed c.in-Ok.links.items l) back
           (fresh_index c.in-Ok.links.items frames new c.fill_all.ensures.filled (omega (arith, made, count_is frames c.requires, c.requires.count)) (c.in-Ok.ensures ∙ ap {B = List ℕ} (λ (k : ℕ). replicate (2 * k) (2 ^ 32 - 1)) same_first)),
       subst (λ (l : List Slot). IsOrdered c.in-Ok-first_tree.tree.items l) back
-          (fresh_order c.in-Ok-first_tree.tree.items frames new c.fill_all.ensures.filled (c.in-Ok-first_tree.ensures ∙ ap {B = List Node} (λ (k : ℕ). replicate (2 * k) no_node) same)),
+          (fresh_order c.in-Ok-first_tree.tree.items frames new c.fill_all.ensures.filled (c.in-Ok-first_tree.ensures ∙ ap {B = List Node} (λ (k : ℕ). replicate (inner_of k + k) fresh_node) same)),
     )
 
 pub returns-clause-pool : goal.returns-clause-pool
