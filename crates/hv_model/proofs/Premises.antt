@@ -11,7 +11,7 @@ use Rattle.hv_model.specs.declared.query.Cell.{Cell}
 use Rattle.hv_model.specs.Command.{database_after}
 use Rattle.hv_model.specs.Legal.{done_before, Answered, IsRefusedFor, LegalUpTo, Legal}
 use Rattle.hv_model.specs.Sessions.{LegalInPhase, upper_in_phase, IsTold, SessionSoFar}
-use Rattle.hv_model.specs.OneSession.{Settles, LegalSoFar, Kept}
+use Rattle.hv_model.specs.Settled.{Settles}
 
 -- an answer
 pub answered_under : (k j : Type 0) → (k → j) → (x : Statement) (s : RowDatabase) (max : ℕ) (rows : List (List Cell)) → Answered x s max j rows → Answered x s max k rows
@@ -34,30 +34,6 @@ settles_under k j follows x max before history (Done at what) new longer settles
 settles_under k j follows x max before history (Rows at rows) new longer settles = (settles.0, answered_under k j follows x before max rows settles.1)
 settles_under k j follows x max before history (Refused at cause) new longer settles = (settles.0, refused_under k j follows x before max cause settles.1)
 settles_under k j follows x max before history (Failed at cause) new longer settles = settles
-
--- what holds of the replies to the first statements
-pub so_far_under : (k j : Type 0) → (k → j) → (s : Script) (xs : List Statement) (max : ℕ) (history : List Entry) (rs : List Reply)
-    → LegalSoFar s xs max j history rs → LegalSoFar s xs max k history rs
-so_far_under k j follows s xs max history rs legal = record {
-  entries = legal.entries;
-  done = legal.done;
-  steps = legal.steps;
-  along = legal.along;
-  within = legal.within;
-  rows = (λ i x n rows stands reply. answered_under k j follows x _ max rows (legal.rows i x n rows stands reply));
-  refused = (λ i x n cause stands reply. refused_under k j follows x _ max cause (legal.refused i x n cause stands reply));
-  failed = legal.failed;
-  counted = legal.counted;
-}
-
--- what holds between two statements
-pub kept_under : (k j : Type 0) → (k → j) → (s : Script) (xs : List Statement) (max : ℕ) (now : RowDatabase) (history : List Entry) (rs : List Reply)
-    → Kept s xs max j now history rs → Kept s xs max k now history rs
-kept_under k j follows s xs max now history rs kept = record {
-  database = kept.database;
-  short = kept.short;
-  legal = so_far_under k j follows s xs max history rs kept.legal;
-}
 
 -- a legal outcome so far
 pub legal_up_to_under : (k j : Type 0) → (k → j) → (s : Script) (max : ℕ) (upper : ℕ → ℕ) (history : List Entry) (replies : List (List Reply))

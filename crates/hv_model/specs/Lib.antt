@@ -25,5 +25,4 @@ pub mod Legal
 pub mod Settled
 pub mod Sessions
 pub mod ThreeSessions
-pub mod OneSession
 pub mod Report

@@ -9,6 +9,7 @@ use Rattle.hv_model.specs.declared.catalogue.Entry.{Entry}
 use Rattle.hv_model.specs.declared.reply.Reply.{Reply}
 use Rattle.hv_model.specs.declared.reply.Reply.TheVariants.{Done, Rows, Refused, Failed}
 use Rattle.hv_model.specs.Parsed.{tree_of}
+use Rattle.hv_model.specs.Script.{most_bytes, most_lines, most_sessions, most_statements, line_list}
 use Rattle.hv_model.specs.Command.{statements, database_after, entry_at}
 use Rattle.hv_model.specs.Legal.{number_of, reply_to, done_before, Stands, Names, Accepted, Answered, IsRefusedFor, FollowsNumber, may_fail, LegalUpTo}
 
@@ -23,6 +24,14 @@ pub record HasSessions (s : Script) : Type 0 where
   pub distinct : (i j : ℕ) (name : List ℕ) → slice_get s.sessions i ≡ Some name → slice_get s.sessions j ≡ Some name → i ≡ j
   pub named : (x : Statement) → Stands s x → (i : ℕ) × (slice_get s.sessions i ≡ Some x.session)
   pub numbered : AreNumbered (statements s)
+
+-- the script has at least one phase, at most 64 sessions and 1,000,000 statements, and each statement's text and lines are as short as a script's are
+pub record HasBounds (s : Script) : Type 0 where
+  pub some_phase : 0 < length s.phases
+  pub few_sessions : length s.sessions ≤ most_sessions
+  pub few_statements : length (statements s) ≤ most_statements
+  pub short_text : (x : Statement) → Stands s x → length x.text ≤ most_bytes
+  pub few_lines : (x : Statement) → Stands s x → length (line_list x.lines) ≤ most_lines
 
 -- the statements of the first p phases, in the order of the text
 abbrev pub statements_before : Script → ℕ → List Statement

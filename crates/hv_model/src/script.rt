@@ -40,7 +40,9 @@ pub enum FaultName {
     LongImport,
     /// Fewer lines follow an import than it takes.
     ShortImport,
-    /// It has more than 1,000,000 statements.
+    /// It names more than 64 sessions.
+    TooManySessions,
+    /// It has more than 1,000,000 statements, of all sessions together.
     TooManyStatements,
 }
 

@@ -1,55 +1,18 @@
--- One more statement, and faults behind statements.
-use Rattle.std.proofs.Common.{◌≡◌, ℕ, zero, suc, ◌+◌, ◌<◌, ◌≤◌, true, false, ◌||◌, cond, eqb, List, [], ◌∷◌, ◌++◌, length, Option, Some, None, IsUtf8, codes, refl, ◌∙◌, ap, arith, length-append}
-use Rattle.hv_model.specs.Parsed.{lines_wanted}
-use Rattle.hv_model.specs.Script.{most_bytes, most_statements, Statements, Takes, TakesLines, ReadsTo, Follows, IsUnended, IsLongImport, IsShortImport, IsOneTooMany, IsFault, line_list, data_behind, data_from, behind_gap, behind_return}
-use Rattle.hv_model.specs.declared.script.Statement.{Statement}
+-- One more text, and faults behind texts.
+use Rattle.std.proofs.Common.{◌≡◌, ℕ, zero, suc, ◌+◌, ◌<◌, ◌≤◌, true, false, List, [], ◌∷◌, ◌++◌, length, Some, IsUtf8, refl, ◌∙◌, ap, arith, length-append}
+use Rattle.std.proofs.lemmas.List.Sums.{fold-append}
+use Rattle.hv_model.specs.declared.tree.Word.{Word}
+use Rattle.hv_model.specs.declared.tree.Ast.TheVariants as ast
 use Rattle.hv_model.specs.declared.script.FaultName.{FaultName}
+use Rattle.hv_model.specs.Command.{statements}
+use Rattle.hv_model.specs.Parsed.{lines_wanted, tree_of}
+use Rattle.hv_model.specs.Script.{most_bytes, most_sessions, most_statements, Cut, Cuts, Takes, TakesLines, ReadsTo, Follows, placed_first, after_cut, placed_by, script_of, is_session, has_reply, IsWithin, IsUnended, IsLongImport, IsShortImport, IsSessionTooMany, IsOneTooMany, IsFault, line_list, data_behind}
+use Rattle.hv_model.proofs.ScriptLengths.{length_after, behind_length}
 use Rattle.hv_script.specs.declared.fault.BytesFault.{BytesFault}
 use Rattle.hv_script.specs.declared.fault.BytesFault.TheVariants.{Found, Memory}
 use Rattle.hv_script.specs.Fault.{IsFaultOf, TellsAt}
 use Rattle.hv_script.specs.Next.{OpensText, ClosesText, WantsMany, LacksLines, HasNext}
 use Rattle.hv_script.proofs.Parts.{lines_grow}
-
--- what is behind the rest of a line is no longer
-length_return : (bytes data_bytes : List ℕ) → behind_return bytes ≡ Some data_bytes → length data_bytes ≤ length bytes
-length_return [] d e = cc
-length_return (b ∷ bs) d e =
-    elim (eqb b 10) as (λ v. cond v (Some bs) None ≡ Some d → length d ≤ suc (length bs)) [
-      | true ↦ λ h. let same : bs ≡ d = cc in let n : length bs ≡ length d = ap length same in omega arith
-      | false ↦ λ h. cc
-    ] e
-
-length_gap : (bytes data_bytes : List ℕ) → behind_gap bytes ≡ Some data_bytes → length data_bytes ≤ length bytes
-length_gap [] d e = cc
-length_gap (b ∷ bs) d e =
-    elim (eqb b 32 || eqb b 9) as (λ v. cond v (behind_gap bs) (cond (eqb b 13) (behind_return bs) (cond (eqb b 10) (Some bs) None)) ≡ Some d → length d ≤ suc (length bs)) [
-      | true ↦ λ h. omega (arith, length_gap bs d h)
-      | false ↦ elim (eqb b 13) as (λ v. cond v (behind_return bs) (cond (eqb b 10) (Some bs) None) ≡ Some d → length d ≤ suc (length bs)) [
-        | true ↦ λ h. omega (arith, length_return bs d h)
-        | false ↦ elim (eqb b 10) as (λ v. cond v (Some bs) None ≡ Some d → length d ≤ suc (length bs)) [
-          | true ↦ λ h. let same : bs ≡ d = cc in let n : length bs ≡ length d = ap length same in omega arith
-          | false ↦ λ h. cc
-        ]
-      ]
-    ] e
-
-length_from : (gap : Option (List ℕ)) (behind : List ℕ) → ((d : List ℕ) → gap ≡ Some d → length d ≤ length behind) → length (data_from gap behind) ≤ length behind
-length_from None behind h = omega arith
-length_from (Some d) behind h = h d refl
-
-pub length_data : (behind : List ℕ) → length (data_behind behind) ≤ length behind
-length_data behind = length_from (behind_gap behind) behind (length_gap behind)
-
--- what is behind a statement's lines is no longer than what is behind its `;`
-pub length_after : (wanted : ℕ) (behind lines after : List ℕ) → TakesLines wanted behind lines after → length after ≤ length behind
-length_after zero behind lines after t = let n : length after ≡ length behind = ap length (t.none refl).1 in omega arith
-length_after (suc w) behind lines after t =
-    let n : length (data_behind behind) ≡ length lines + length after = ap length (t.some (omega arith)) ∙ length-append lines after in
-    omega (arith, length_data behind)
-
--- what stands behind blanks is no longer
-pub behind_length : (bytes blanks from : List ℕ) → bytes ≡ blanks ++ from → length from ≤ length bytes
-behind_length bytes blanks from e = let n : length bytes ≡ length blanks + length from = ap length e ∙ length-append blanks from in omega arith
 
 -- a text and what is behind its `;`
 pub closes_length : (bytes from text behind : List ℕ) → ClosesText bytes from text behind → length text + (1 + length behind) ≤ length bytes
@@ -57,37 +20,42 @@ closes_length bytes from text behind c =
     let n : length from ≡ length text + (1 + length behind) = ap length c.from_is ∙ length-append text (59 ∷ behind) ∙ omega arith in
     omega (arith, behind_length bytes c.blanks from c.is)
 
--- each statement takes a byte
+-- each text takes a byte
 pub next_shorter : (bytes from text lines after : List ℕ) → HasNext bytes from text lines after → length after < length bytes
 next_shorter bytes from text lines after h =
     omega (arith, closes_length bytes from text h.behind h.closes, length_after (lines_wanted text) h.behind lines after h.data_lines)
 
--- a statement with this text and these lines is taken
-pub takes_next : (bytes from text lines after : List ℕ) (x : Statement) → HasNext bytes from text lines after → x.text ≡ text → x.lines ≡ lines → Takes bytes x after
-takes_next bytes from text lines after x h t l = record {
+-- a text and its lines
+abbrev pub cut_of : List ℕ → List ℕ → Cut
+cut_of text lines = record { text = text; lines = lines }
+
+-- they are taken where they stand next
+pub takes_next : (bytes from text lines after : List ℕ) → HasNext bytes from text lines after → Takes bytes (cut_of text lines) after
+takes_next bytes from text lines after h = record {
   blanks = h.closes.blanks;
   behind = h.behind;
   blank = h.closes.blank;
-  text = rw t h.closes.text_is;
-  is = rw t (h.closes.is ∙ ap (λ z. h.closes.blanks ++ z) h.closes.from_is);
-  few = rw t h.allowed;
-  data_lines = rw (t, l) h.data_lines;
+  text = h.closes.text_is;
+  is = h.closes.is ∙ ap (λ z. h.closes.blanks ++ z) h.closes.from_is;
+  few = h.allowed;
+  data_lines = h.data_lines;
 }
 
--- and one that is taken stands next
-pub closes_of : (bytes after : List ℕ) (x : Statement) (t : Takes bytes x after) → ClosesText bytes (x.text ++ 59 ∷ t.behind) x.text t.behind
-closes_of bytes after x t = record { blanks = t.blanks; blank = t.blank; text_is = t.text; is = t.is; from_is = refl }
+-- and what is taken stands next
+pub closes_of : (bytes after : List ℕ) (cut : Cut) (t : Takes bytes cut after) → ClosesText bytes (cut.text ++ 59 ∷ t.behind) cut.text t.behind
+closes_of bytes after cut t = record { blanks = t.blanks; blank = t.blank; text_is = t.text; is = t.is; from_is = refl }
 
--- one more statement
-pub statements_push : (bytes : List ℕ) (k : ℕ) (xs : List Statement) (x : Statement) (rest after : List ℕ) → Statements bytes k xs rest → Takes rest x after
-    → x.session ≡ codes "main" → x.number ≡ k + length xs → Statements bytes k (xs ++ x ∷ []) after
-statements_push bytes k [] x rest after s t m n = (m, n ∙ omega arith, (after, rw s t, refl))
-statements_push bytes k (y ∷ ys) x rest after s t m n =
-    (s.0, s.1, (s.2.0, s.2.1, statements_push s.2.0 (k + 1) ys x rest after s.2.2 t m (n ∙ omega arith)))
+-- one more text
+pub cuts_push : (bytes : List ℕ) (cuts : List Cut) (cut : Cut) (rest after : List ℕ) → Cuts bytes cuts rest → Takes rest cut after → Cuts bytes (cuts ++ cut ∷ []) after
+cuts_push bytes [] cut rest after read t = (after, rw read t, refl)
+cuts_push bytes (first ∷ cuts) cut rest after read t = (read.0, read.1, cuts_push read.0 cuts cut rest after read.2 t)
 
--- what stands behind statements without a fault, as a fault
-abbrev pub reads_to : (bytes rest : List ℕ) (xs : List Statement) → length bytes ≤ most_bytes → IsUtf8 bytes → Statements bytes 1 xs rest → length xs ≤ most_statements → ReadsTo bytes rest
-reads_to bytes rest xs short utf8 read count = record { short = short; utf8 = utf8; statements = xs; read = read; count = count }
+pub placed_push : (cuts : List Cut) (cut : Cut) → placed_by (cuts ++ cut ∷ []) ≡ after_cut (placed_by cuts) cut
+placed_push cuts cut = fold-append after_cut placed_first cuts (cut ∷ [])
+
+-- what stands behind texts without a fault, as a fault
+abbrev pub reads_to : (bytes rest : List ℕ) (cuts : List Cut) → length bytes ≤ most_bytes → IsUtf8 bytes → Cuts bytes cuts rest → IsWithin (placed_by cuts) → ReadsTo bytes rest
+reads_to bytes rest cuts short utf8 read within = record { short = short; utf8 = utf8; cuts = cuts; read = read; within = within }
 
 abbrev follows_of : (bytes rest from text behind : List ℕ) (byte : ℕ) → ReadsTo bytes rest → ClosesText rest from text behind → byte + length from ≡ length bytes → Follows bytes byte text behind
 follows_of bytes rest from text behind byte front c at = record {
@@ -138,18 +106,35 @@ has_enough (suc w) behind lines after t =
     let count : length (line_list lines) ≡ suc w = t.count in
     omega (arith, lines_grow lines after)
 
-pub one_too_many : (bytes rest from text lines after : List ℕ) (byte : ℕ) (front : ReadsTo bytes rest) → length front.statements ≡ most_statements
-    → HasNext rest from text lines after → byte + length from ≡ length bytes → IsOneTooMany bytes byte
-one_too_many bytes rest from text lines after byte front full h at = record {
+pub session_too_many : (bytes rest from text lines after : List ℕ) (byte : ℕ) (front : ReadsTo bytes rest) (name : Word) → tree_of text ≡ Some (ast.Session name)
+    → is_session (placed_by front.cuts).sessions name.name ≡ false → length (placed_by front.cuts).sessions ≡ most_sessions
+    → HasNext rest from text lines after → byte + length from ≡ length bytes → IsSessionTooMany bytes byte
+session_too_many bytes rest from text lines after byte front name sets other full h at = record {
   text = text;
   behind = h.behind;
   follows = follows_of bytes rest from text h.behind byte front h.closes at;
-  full = full;
   allowed = h.allowed;
   enough = has_enough (lines_wanted text) h.behind lines after h.data_lines;
+  name = name;
+  sets = sets;
+  other = other;
+  full = full;
 }
 
--- a fault that is told at a statement's first byte
+pub one_too_many : (bytes rest from text lines after : List ℕ) (byte : ℕ) (front : ReadsTo bytes rest) → has_reply (tree_of text) ≡ true
+    → length (statements (script_of (placed_by front.cuts))) ≡ most_statements
+    → HasNext rest from text lines after → byte + length from ≡ length bytes → IsOneTooMany bytes byte
+one_too_many bytes rest from text lines after byte front replied full h at = record {
+  text = text;
+  behind = h.behind;
+  follows = follows_of bytes rest from text h.behind byte front h.closes at;
+  allowed = h.allowed;
+  enough = has_enough (lines_wanted text) h.behind lines after h.data_lines;
+  replied = replied;
+  full = full;
+}
+
+-- a fault that is told at a text's first byte
 pub told_at : (name : FaultName) (bytes from : List ℕ) (fault : BytesFault) → TellsAt name bytes from fault
     → ((byte : ℕ) → byte + length from ≡ length bytes → IsFault bytes name byte) → IsFaultOf bytes fault
 told_at name bytes from (Found fault) t is = rw t.0 (is fault.byte t.1)

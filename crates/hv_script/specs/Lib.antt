@@ -2,5 +2,5 @@ pub mod Fault
 pub mod Next
 pub mod OneReading
 pub mod Reading
-pub mod Script
+pub mod SoFar
 pub mod Words

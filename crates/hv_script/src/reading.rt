@@ -4,7 +4,6 @@ ghost use Rattle.hv_io.specs.Bytes.{Consumes};
 ghost use Rattle.hv_model.specs.Script.{IsScript, IsFault};
 ghost use Rattle.hv_script.specs.Fault.{CountsFaults, IfFound};
 ghost use Rattle.hv_script.specs.Reading.{IsRead};
-ghost use Rattle.hv_script.specs.Script.{HasOneSession};
 
 use crate::fault::ReadScriptFault;
 use crate::script::{MAX_SCRIPT_BYTES, read_statements};
@@ -21,7 +20,7 @@ pub const READ_BYTES: usize = 65_536;
 pub fn read_script<S: Source>(alloc: Global, source: &mut S) -> Result<Script, ReadScriptFault>
     ensures script { IfOk result (λ script. IfSome (S.left source.old) (λ bytes. IsScript bytes script)) }
     ensures ended { IfOk result (λ _. IfSome (S.left source.old) (λ _. S.left source.new ≡ Some [])) }
-    ensures one_session { IfOk result (λ script. HasOneSession script) }
+    ensures some_bytes { IfOk result (λ script. (bytes : List ℕ) × IsScript bytes script) }
     ensures found { IfErr result (λ fault. IfFound fault (λ found. IfSome (S.left source.old) (λ bytes. IsFault bytes found.name found.byte))) }
     ensures counted { CountsFaults result (S.faults source.old) (S.faults source.new) }
 {

@@ -1,20 +1,17 @@
 // The statements of a script.
-ghost use Rattle.std.specs.Prelude.{◌≡◌, ◌+◌, ◌≤◌, [], ◌∷◌, codes, length, IfOk, IfErr, IsUtf8};
+ghost use Rattle.std.specs.Prelude.{◌≡◌, ◌≤◌, length, IfOk, IfErr, IsUtf8};
 ghost use Rattle.hv_model.specs.Script.{most_bytes, IsScript};
 ghost use Rattle.hv_script.specs.declared.fault.BytesFault.TheVariants.{Found};
 ghost use Rattle.hv_script.specs.Fault.{IsFaultOf, TellsAt};
 
 use crate::fault::BytesFault;
+use crate::so_far::SoFar;
 use crate::statement::{Next, find_next};
-use hv_model::{FaultName, Phase, Script, ScriptFault, SessionName, Statement};
-use hv_row::{Bytes, Copied, Listed};
-use std::alloc::{AllocError, Global};
+use hv_model::{FaultName, Script, ScriptFault};
+use std::alloc::Global;
 
 /// The most bytes of a script.
 pub const MAX_SCRIPT_BYTES: usize = 67_108_864;
-
-/// The most statements of a script.
-pub const MAX_STATEMENTS: usize = 1_000_000;
 
 /// The script that the bytes are. `Err` is their first fault, told at a byte counted from 0, or `Memory` for want of memory at any point.
 pub fn read_statements(alloc: Global, bytes: &[u8]) -> Result<Script, BytesFault>
@@ -22,13 +19,11 @@ pub fn read_statements(alloc: Global, bytes: &[u8]) -> Result<Script, BytesFault
     ensures fault { IfErr result (λ fault. IsFaultOf bytes.now fault) }
 {
     test_bytes(bytes)?;
-    let session = SessionName::new(alloc, owned(alloc, b"main")?)?;
-    let mut statements: Phase = Listed::new(alloc);
-    let mut number = 1;
+    let mut so_far = SoFar::new(alloc)?;
     let mut rest = bytes;
     loop {
         match find_next(rest) {
-            Next::End => return Ok(one_phase(alloc, statements)?),
+            Next::End => return Ok(so_far.into_script()?),
             Next::Unended(from) => return Err(fault_at(FaultName::Unended, bytes, from)),
             Next::Long(from) => return Err(fault_at(FaultName::LongImport, bytes, from)),
             Next::Short(from) => return Err(fault_at(FaultName::ShortImport, bytes, from)),
@@ -38,11 +33,9 @@ pub fn read_statements(alloc: Global, bytes: &[u8]) -> Result<Script, BytesFault
                 lines,
                 after,
             } => {
-                if statements.len() == MAX_STATEMENTS {
-                    return Err(fault_at(FaultName::TooManyStatements, bytes, from));
+                if let Some(fault) = so_far.take_text(alloc, text, lines)? {
+                    return Err(fault_at(fault, bytes, from));
                 }
-                statements.push(main_statement(alloc, &session, number, text, lines)?)?;
-                number += 1;
                 rest = after;
             }
         }
@@ -82,41 +75,4 @@ fn fault_at(name: FaultName, bytes: &[u8], rest: &[u8]) -> BytesFault
     ensures { TellsAt name bytes.now rest.now result }
 {
     told(name, bytes.len() - rest.len())
-}
-
-// A statement of the session `main`, whose name it shares.
-fn main_statement(
-    alloc: Global,
-    session: &SessionName,
-    number: u32,
-    text: &[u8],
-    lines: &[u8],
-) -> Result<Statement, AllocError>
-    requires { session.now ≡ codes "main" }
-    ensures { IfOk result (λ x. x ≡ record { session = codes "main"; number = number; text = text.now; lines = lines.now }) }
-{
-    Ok(Statement {
-        session: session.copy(alloc)?,
-        number,
-        text: owned(alloc, text)?,
-        lines: owned(alloc, lines)?,
-    })
-}
-
-// The script of one session and one phase.
-fn one_phase(alloc: Global, statements: Phase) -> Result<Script, AllocError>
-    ensures { IfOk result (λ script. script ≡ record { sessions = codes "main" ∷ []; phases = statements ∷ [] }) }
-{
-    let mut sessions = Listed::new(alloc);
-    sessions.push(owned(alloc, b"main")?)?;
-    let mut phases = Listed::new(alloc);
-    phases.push(statements)?;
-    Ok(Script { sessions, phases })
-}
-
-// The bytes, in memory of their own.
-fn owned(alloc: Global, bytes: &[u8]) -> Result<Bytes, AllocError>
-    ensures { IfOk result (λ copy. copy ≡ bytes.now) }
-{
-    Ok(Listed::from_vec(Vec::from_slice(alloc, bytes)?))
 }

@@ -17,6 +17,8 @@ mod reports;
 #[cfg(test)]
 mod scripts;
 #[cfg(test)]
+mod sessions;
+#[cfg(test)]
 mod sinks;
 #[cfg(test)]
 mod sources;

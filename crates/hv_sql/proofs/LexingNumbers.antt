@@ -19,10 +19,10 @@ utf8_told bytes P Q (Err e) h = sym (false_from_ne_true (is_utf8 bytes) (λ is. 
 tells_digits : IsDigitsTest (λ ds. list_all is_digit ds ≡ true)
 tells_digits = search (rules, nat_tests)
 
-digits : IsNumeralModel (λ ds. list_all is_digit ds ≡ true) (digits_value 10)
+pub digits : IsNumeralModel (λ ds. list_all is_digit ds ≡ true) (digits_value 10)
 digits = numerals_by_value _ tells_digits
 
-number_some : (ds : List ℕ) → is_number ds ≡ true → 0 < length ds
+pub number_some : (ds : List ℕ) → is_number ds ≡ true → 0 < length ds
 number_some ds h = grind (arith, nat_tests)
 
 at_most : {E : Type 0} (r : Result ℕ E) (some : Type 0) (value : ℕ) → some → OkIff r (some × (value < 2 ^ 64)) value → result_unwrap_or r 18446744073709551615 ≡ min value 18446744073709551615

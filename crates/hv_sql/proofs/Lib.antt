@@ -26,3 +26,4 @@ mod Cut
 mod Spelt
 pub mod Completing
 pub mod WordLengths
+pub mod Marks

@@ -1,4 +1,5 @@
--- The table that a statement's text creates, imports into or purges has a name, and so has that of an entry of a legal history.
+-- The table that a statement's text creates, imports into or purges has a name, and so have the session that one sets and the table of an entry of
+-- a legal history.
 use Rattle.std.proofs.Common.{◌≡◌, ℕ, true, List, [], ◌∷◌, length, Option, Some, None, refl, subst, inl, inr}
 use Rattle.std.specs.Prelude.{Result, Ok, Err}
 use Rattle.std.specs.Result.{result_map_both}
@@ -30,7 +31,7 @@ use Rattle.hv_model.specs.Terminals.{is_keyword, is_number, word_of}
 use Rattle.hv_model.specs.Grammar.{one}
 use Rattle.hv_model.specs.Sql.{most_number, name, create, import, purge, merge, session, barrier, select, statement}
 use Rattle.hv_model.specs.SqlReading.{tree_at}
-use Rattle.hv_model.specs.Parsed.{placed, parsed}
+use Rattle.hv_model.specs.Parsed.{placed, parsed, some_tree, tree_of}
 use Rattle.hv_model.specs.Import.{rows_of}
 use Rattle.hv_model.specs.Causes.{first_of, given_unless}
 use Rattle.hv_model.specs.Database.{Rows, RowTable, RowDatabase, RowCommand}
@@ -89,12 +90,13 @@ name_named : (lexemes rest : List Lexeme) (w : Word) → name lexemes rest w →
 name_named [] rest w s named = absurd s
 name_named (t ∷ ts) rest w s named = word_named t.what t.byte w s.0 named.0
 
--- the table that a statement creates, imports into or purges has a name
-abbrev pub TableNamed : Ast → Type 0
-TableNamed (ast.Create table columns) = is_name table.name ≡ true
-TableNamed (ast.Import table wanted) = is_name table.name ≡ true
-TableNamed (ast.Purge chunk table) = is_name table.name ≡ true
-TableNamed _ = Unit {0}
+-- the table that a statement creates, imports into or purges has a name, and so has the session that one sets
+abbrev pub TreeNamed : Ast → Type 0
+TreeNamed (ast.Create table columns) = is_name table.name ≡ true
+TreeNamed (ast.Import table wanted) = is_name table.name ≡ true
+TreeNamed (ast.Purge chunk table) = is_name table.name ≡ true
+TreeNamed (ast.Session word) = is_name word.name ≡ true
+TreeNamed _ = Unit {0}
 
 -- behind two lexemes that were read
 second_named : {A B : Type 0} (p : Lexeme → Option A) (q : Lexeme → Option B) (lexemes a b : List Lexeme) (m : A) (n : B) → one p lexemes a m → one q a b n → AllNamed lexemes → AllNamed b
@@ -104,52 +106,55 @@ second_named p q lexemes a b m n first second named = rest_named q a b n second 
 third_named : (p q : Lexeme → Option ℕ) (lexemes a b rest : List Lexeme) (m n : ℕ) (w : Word) → one p lexemes a m → one q a b n → name b rest w → AllNamed lexemes → is_name w.name ≡ true
 third_named p q lexemes a b rest m n w first second third named = name_named b rest w third (second_named p q lexemes a b m n first second named)
 
-of_create : (lexemes : List Lexeme) (a : Ast) → create lexemes [] a → AllNamed lexemes → TableNamed a
+of_create : (lexemes : List Lexeme) (a : Ast) → create lexemes [] a → AllNamed lexemes → TreeNamed a
 unfolding create
 of_create lexemes a s named =
     let at = s.second.second in
-    subst (λ (b : Ast). TableNamed b) at.second.second.second.second.1
+    subst (λ (b : Ast). TreeNamed b) at.second.second.second.second.1
     (third_named (is_keyword k.Create) (is_keyword k.Table) lexemes _ _ _ s.value s.second.value at.value s.first s.second.first at.first named)
 
-of_import : (lexemes : List Lexeme) (a : Ast) → import lexemes [] a → AllNamed lexemes → TableNamed a
+of_import : (lexemes : List Lexeme) (a : Ast) → import lexemes [] a → AllNamed lexemes → TreeNamed a
 unfolding import
 of_import lexemes a s named =
     let at = s.second.second in
-    subst (λ (b : Ast). TableNamed b) at.second.second.second.1
+    subst (λ (b : Ast). TreeNamed b) at.second.second.second.1
     (third_named (is_keyword k.Import) (is_keyword k.Into) lexemes _ _ _ s.value s.second.value at.value s.first s.second.first at.first named)
 
-of_purge : (lexemes : List Lexeme) (a : Ast) → purge lexemes [] a → AllNamed lexemes → TableNamed a
+of_purge : (lexemes : List Lexeme) (a : Ast) → purge lexemes [] a → AllNamed lexemes → TreeNamed a
 unfolding purge
 of_purge lexemes a s named =
     let at = s.second.second in
     let name_at = at.second.second in
     let number_on = second_named (is_keyword k.Purge) (is_keyword k.Chunk) lexemes s.middle s.second.middle s.value s.second.value s.first s.second.first named in
     let name_on = second_named (is_number most_number) (is_keyword k.Of) s.second.middle at.middle at.second.middle at.value at.second.value at.first at.second.first number_on in
-    subst (λ (b : Ast). TableNamed b) name_at.second.1 (name_named at.second.middle name_at.middle name_at.value name_at.first name_on)
+    subst (λ (b : Ast). TreeNamed b) name_at.second.1 (name_named at.second.middle name_at.middle name_at.value name_at.first name_on)
 
-of_merge : (lexemes : List Lexeme) (a : Ast) → merge lexemes [] a → TableNamed a
+of_merge : (lexemes : List Lexeme) (a : Ast) → merge lexemes [] a → TreeNamed a
 unfolding merge
-of_merge lexemes a s = subst (λ (b : Ast). TableNamed b) s.second.second.second.second.second.second.second.1 tt
+of_merge lexemes a s = subst (λ (b : Ast). TreeNamed b) s.second.second.second.second.second.second.second.1 tt
 
-of_session : (lexemes : List Lexeme) (a : Ast) → session lexemes [] a → TableNamed a
+of_session : (lexemes : List Lexeme) (a : Ast) → session lexemes [] a → AllNamed lexemes → TreeNamed a
 unfolding session
-of_session lexemes a s = subst (λ (b : Ast). TableNamed b) s.second.second.1 tt
+of_session lexemes a s named =
+    let at = s.second in
+    let name_on = rest_named (is_keyword k.Session) lexemes s.middle s.value s.first named in
+    subst (λ (b : Ast). TreeNamed b) at.second.1 (name_named s.middle at.middle at.value at.first name_on)
 
-of_barrier : (lexemes : List Lexeme) (a : Ast) → barrier lexemes [] a → TableNamed a
+of_barrier : (lexemes : List Lexeme) (a : Ast) → barrier lexemes [] a → TreeNamed a
 unfolding barrier
-of_barrier lexemes a s = subst (λ (b : Ast). TableNamed b) s.second.1 tt
+of_barrier lexemes a s = subst (λ (b : Ast). TreeNamed b) s.second.1 tt
 
-of_select : (lexemes : List Lexeme) (a : Ast) → select lexemes [] a → TableNamed a
+of_select : (lexemes : List Lexeme) (a : Ast) → select lexemes [] a → TreeNamed a
 unfolding select
-of_select lexemes a s = subst (λ (b : Ast). TableNamed b) s.second.second.second.second.second.second.second.1 tt
+of_select lexemes a s = subst (λ (b : Ast). TreeNamed b) s.second.second.second.second.second.second.second.1 tt
 
-of_statement : (lexemes : List Lexeme) (a : Ast) → statement lexemes [] a → AllNamed lexemes → TableNamed a
+of_statement : (lexemes : List Lexeme) (a : Ast) → statement lexemes [] a → AllNamed lexemes → TreeNamed a
 unfolding statement
 of_statement lexemes a (inl s) named = of_create lexemes a s named
 of_statement lexemes a (inr (inl s)) named = of_import lexemes a s named
 of_statement lexemes a (inr (inr (inl s))) named = of_purge lexemes a s named
 of_statement lexemes a (inr (inr (inr (inl s)))) named = of_merge lexemes a s
-of_statement lexemes a (inr (inr (inr (inr (inl s))))) named = of_session lexemes a s
+of_statement lexemes a (inr (inr (inr (inr (inl s))))) named = of_session lexemes a s named
 of_statement lexemes a (inr (inr (inr (inr (inr (inl s)))))) named = of_barrier lexemes a s
 of_statement lexemes a (inr (inr (inr (inr (inr (inr s)))))) named = of_select lexemes a s
 
@@ -157,14 +162,25 @@ ok_ast : (a b : Ast) → ◌≡◌ {A = Result Ast ℕ} (Ok a) (Ok b) → a ≡ 
 ok_ast a b e = cc
 
 -- the table of a text
-pub text_named : (text : List ℕ) (a : Ast) → parsed text ≡ Ok a → TableNamed a
+pub text_named : (text : List ℕ) (a : Ast) → parsed text ≡ Ok a → TreeNamed a
 text_named text a is = go (tree_at (lexemes text)) refl is
   where
-    go : (r : Result Ast (List Lexeme)) → tree_at (lexemes text) ≡ r → placed (length text) r ≡ Ok a → TableNamed a
+    go : (r : Result Ast (List Lexeme)) → tree_at (lexemes text) ≡ r → placed (length text) r ≡ Ok a → TreeNamed a
     go (Ok b) read e =
-        subst (λ (c : Ast). TableNamed c) (ok_ast b a e)
+        subst (λ (c : Ast). TreeNamed c) (ok_ast b a e)
         (of_statement (lexemes text) b (trees_sound (lexemes text) b read) (tokens_named text (tokens_of text) (tokens_stand text)))
     go (Err at) read e = absurd cc
+
+-- the name that a text sets as the session of what follows
+pub session_named : (text : List ℕ) (w : Word) → tree_of text ≡ Some (ast.Session w) → is_name w.name ≡ true
+session_named text w is = go (parsed text) refl is
+  where
+    some_ast : (a b : Ast) → ◌≡◌ {A = Option Ast} (Some a) (Some b) → a ≡ b
+    some_ast a b e = cc
+
+    go : (r : Result Ast ℕ) → parsed text ≡ r → some_tree r ≡ Some (ast.Session w) → is_name w.name ≡ true
+    go (Ok a) read e = subst (λ (b : Ast). TreeNamed b) (some_ast a (ast.Session w) e) (text_named text a read)
+    go (Err byte) read e = absurd cc
 
 -- the table that a detail tells
 abbrev pub told_table : Detail → List ℕ
@@ -201,7 +217,7 @@ import_named table lines c (Some t) named e = go (rows_of t.schema lines) e
     go (Err cause) f = absurd cc
     go (Ok rows) f = same_named (Import table.name rows) c f named
 
-command_named : (a : Ast) (lines : List ℕ) (s : RowDatabase) (c : RowCommand) → TableNamed a → command_of (λ rows. rows) a lines s ≡ Ok c → is_name (table_in c) ≡ true
+command_named : (a : Ast) (lines : List ℕ) (s : RowDatabase) (c : RowCommand) → TreeNamed a → command_of (λ rows. rows) a lines s ≡ Ok c → is_name (table_in c) ≡ true
 command_named (ast.Create table columns) lines s c named e = create_named table columns c (first_of (column_causes columns)) named e
 command_named (ast.Import table wanted) lines s c named e = import_named table lines c (table_named s table.name) named e
 command_named (ast.Purge chunk table) lines s c named e = same_named (Purge table.name chunk) c e named

@@ -4,3 +4,4 @@ pub mod Code
 pub mod Answer
 pub mod Completion
 pub mod Words
+pub mod Marks

@@ -10,6 +10,8 @@ mod letters;
 #[cfg(test)]
 mod lexing;
 #[cfg(test)]
+mod marking;
+#[cfg(test)]
 mod parsing;
 #[cfg(test)]
 mod printer;

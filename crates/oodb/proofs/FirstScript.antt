@@ -1,5 +1,5 @@
 -- The first script's outcome, statement by statement.
-use Rattle.std.proofs.Common.{◌≡◌, Bool, Ok, ltb, ltb-true, lit<, ℕ, zero, suc, ◌+◌, ◌≤◌, true, false, List, [], ◌∷◌, Option, Some, None, inr, refl, rules, sym, ◌∙◌, ap, subst, arith, codes, pos, map, if◌then◌else◌}
+use Rattle.std.proofs.Common.{◌≡◌, Bool, Ok, ltb, ltb-true, lit<, ℕ, zero, suc, ◌+◌, ◌≤◌, true, false, List, [], ◌∷◌, Option, Some, None, inr, refl, rules, sym, ◌∙◌, ap, subst, arith, codes, pos, map, length, take, count_by, if◌then◌else◌}
 use Rattle.std.specs.List.{All, list_all, slice_get}
 use Rattle.std.specs.Prelude.{IsUtf8}
 use Rattle.std.proofs.lemmas.Bool.{and_parts}
@@ -12,6 +12,7 @@ use Rattle.std.proofs.lemmas.List.Sorted.{IsPermutation-refl, All-permutation}
 use Rattle.csv.specs.Reading.{records_from, strip_bom}
 use Rattle.csv.specs.Machine.{next_record}
 use Rattle.hv_row.specs.declared.value.Value.{Value}
+use Rattle.hv_row.specs.Schema.{same_name}
 use Rattle.hv_row.specs.Row.{RowFits, row_bytes}
 use Rattle.hv_page.specs.Layout.{written_version}
 use Rattle.hv_page.specs.Chunk.{IsPacked, heap_pages_from, AreHeapPages}
@@ -23,6 +24,7 @@ use Rattle.hv_model.specs.declared.query.Cell.{Cell}
 use Rattle.hv_model.specs.declared.query.Cell.TheVariants.{Num, Txt}
 use Rattle.hv_model.specs.declared.catalogue.TableHead.{TableHead}
 use Rattle.hv_model.specs.declared.catalogue.Command.TheVariants.{Create, Import}
+use Rattle.hv_model.specs.declared.reply.Reply.{Reply}
 use Rattle.hv_model.specs.declared.reply.Reply.TheVariants.{Done, Rows}
 use Rattle.hv_model.specs.declared.reply.Refusal.{Refusal}
 use Rattle.hv_model.specs.declared.reply.Refusal.TheVariants.{EmptyAggregate}
@@ -37,16 +39,18 @@ use Rattle.hv_model.specs.Parsed.{some_tree}
 use Rattle.hv_model.specs.Causes.{first_of}
 use Rattle.hv_model.specs.Bound.{cond_step, cond_of, refusal_step, cond_refusal, bound_query}
 use Rattle.hv_model.specs.Selected.{heads_of, select_refusal, unless_refused}
-use Rattle.hv_model.specs.Command.{text_command, command_at, query_of, bound, text_refusal, early_refusal, empty_refusal, refusal, database_after, replay_from}
+use Rattle.hv_model.specs.Command.{statements, text_command, command_at, query_of, bound, text_refusal, early_refusal, empty_refusal, refusal, database_after, replay_from}
 use Rattle.hv_model.specs.Database.{RowChunk, RowTable, RowDatabase, empty_database, with_table, with_chunk}
 use Rattle.hv_model.specs.Query.{loops, loops_over, out, row_out}
 use Rattle.hv_model.specs.Answer.{IsAnswer, is_empty_aggregate}
 use Rattle.hv_model.specs.Legal.{Legal, Answered}
-use Rattle.hv_model.specs.OneSession.{IsOneSession, Kept}
+use Rattle.hv_model.specs.Sessions.{HasSessions, AllReplied, LegalInPhase, IsNext}
+use Rattle.hv_model.specs.Settled.{Settles}
+use Rattle.hv_model.proofs.Histories.{database_after-kept}
 use Rattle.hv_model.proofs.QueryLaws.{always_all}
-use Rattle.hv_model.proofs.SoFar.{kept_start, kept_next, database_after-kept}
-use Rattle.hv_model.proofs.Whole.{legal_whole}
-use Rattle.oodb.specs.Known.{Known, NoneForgedIn}
+use Rattle.hv_model.proofs.SessionPhases.{legal_start, legal_end}
+use Rattle.hv_model.proofs.SessionWorld.{legal_settled, database_settled}
+use Rattle.hv_world.specs.Known.{Known, NoneForgedIn}
 use Rattle.oodb.specs.FirstScript as first
 use Rattle.oodb.proofs.FirstTrees.{create_parsed, import_parsed, selected, select_parsed}
 
@@ -62,19 +66,29 @@ ascii (b ∷ bs) e (suc i) = ascii bs (and_parts (small b) (list_all small bs) e
 small_text : (bs : List ℕ) → list_all small bs ≡ true → IsUtf8 bs
 small_text bs e = IsUtf8-from_ascii bs (ascii bs e)
 
--- the statements have their session and numbers
-pub record HasPlace (k : ℕ) (x : Statement) : Type 0 where
-  pub session : x.session ≡ codes "main"
-  pub number : x.number ≡ k + 1
+-- what the script has of each statement
+pub record IsOfScript (k : ℕ) (x : Statement) : Type 0 where
+  pub session : (i : ℕ) × (slice_get first.script.sessions i ≡ Some x.session)
+  pub number : x.number ≡ count_by (λ y. same_name y.session x.session) (take k (statements first.script)) + 1
 
-placed : (k : ℕ) (x : Statement) → slice_get first.statements k ≡ Some x → HasPlace k x
-placed zero x e = let same : first.create ≡ x = cc in subst (λ (y : Statement). HasPlace 0 y) same (record { session = refl; number = refl })
-placed (suc zero) x e = let same : first.import ≡ x = cc in subst (λ (y : Statement). HasPlace 1 y) same (record { session = refl; number = refl })
-placed (suc (suc zero)) x e = let same : first.select ≡ x = cc in subst (λ (y : Statement). HasPlace 2 y) same (record { session = refl; number = refl })
-placed (suc (suc (suc k))) x e = absurd cc
+of_script : (k : ℕ) (x : Statement) → slice_get (statements first.script) k ≡ Some x → IsOfScript k x
+of_script zero x at = let same : first.create ≡ x = cc in subst (λ (y : Statement). IsOfScript 0 y) same (record { session = (0, refl); number = refl })
+of_script (suc zero) x at = let same : first.import ≡ x = cc in subst (λ (y : Statement). IsOfScript 1 y) same (record { session = (0, refl); number = refl })
+of_script (suc (suc zero)) x at = let same : first.select ≡ x = cc in subst (λ (y : Statement). IsOfScript 2 y) same (record { session = (0, refl); number = refl })
+of_script (suc (suc (suc k))) x at = absurd cc
 
-one_session : IsOneSession first.script first.statements
-one_session = record { sessions = refl; phases = refl; of_main = (λ k x e. (placed k x e).session); numbers = (λ k x e. (placed k x e).number) }
+one_name : (i j : ℕ) (name : List ℕ) → slice_get first.script.sessions i ≡ Some name → slice_get first.script.sessions j ≡ Some name → i ≡ j
+one_name zero zero name at_i at_j = refl
+one_name zero (suc j) name at_i at_j = absurd cc
+one_name (suc i) j name at_i at_j = absurd cc
+
+has_sessions : HasSessions first.script
+has_sessions = record {
+  main = refl;
+  distinct = one_name;
+  named = (λ x stands. (of_script stands.0 x stands.1).session);
+  numbered = (λ k x at. (of_script k x at).number);
+}
 
 -- the database after CREATE, and after IMPORT
 abbrev created : RowDatabase
@@ -94,35 +108,68 @@ import_command : command_at first.import created ≡ Ok (Import (codes "t") (fir
 unfolding records_from strip_bom next_record
 import_command = ap (λ read. text_command (λ rows. rows) read (codes "1,a\n") created) import_parsed ∙ rw text refl
 
-after_create : (known : Type 0) (max : ℕ) → Kept first.script first.statements max known created (first.made ∷ []) (Done 1 (detail.Create (codes "t")) ∷ [])
-after_create known max = kept_next first.script first.statements max known empty_database created [] (first.made ∷ []) [] first.create (Done 1 (detail.Create (codes "t"))) one_session
-    (kept_start first.script first.statements max known) refl
-    (record {
-      entry = first.made;
-      names = record { session = refl; number = refl };
-      told = refl;
-      is_longer = refl;
-      at_is = refl;
-      command = Create (codes "t") first.schema;
-      is = create_command;
-      steps = refl;
-      detail = refl;
-    })
+-- no reply yet
+empty_list : (i : ℕ) (rs : List Reply) → slice_get ([] ∷ []) i ≡ Some rs → rs ≡ []
+empty_list zero rs at = let same : [] ≡ rs = cc in sym same
+empty_list (suc i) rs at = absurd cc
 
-after_import : (known : Type 0) (max : ℕ) → Kept first.script first.statements max known filled first.history (Done 1 (detail.Create (codes "t")) ∷ Done 2 (detail.Import (codes "t") 1 1) ∷ [])
-after_import known max = kept_next first.script first.statements max known created filled (first.made ∷ []) first.history (Done 1 (detail.Create (codes "t")) ∷ []) first.import
-    (Done 2 (detail.Import (codes "t") 1 1)) one_session (after_create known max) refl
-    (record {
-      entry = first.imported;
-      names = record { session = refl; number = refl };
-      told = refl;
-      is_longer = refl;
-      at_is = refl;
-      command = Import (codes "t") (first.row ∷ []);
-      is = import_command;
-      steps = refl;
-      detail = refl;
-    })
+-- each is the next statement of its session
+next : (k : ℕ) (x : Statement) (rs : List Reply) → slice_get first.statements k ≡ Some x → codes "main" ≡ x.session → x.number ≡ length rs + 1 → IsNext first.script 0 (rs ∷ []) x 0 rs
+next k x rs at session number = record {
+  phase = first.statements;
+  place = k;
+  phase_is = refl;
+  stands = at;
+  session = ap (λ (name : List ℕ). Some name) session;
+  replies_are = refl;
+  number = number;
+}
+
+abbrev of_create : Reply
+of_create = Done 1 (detail.Create (codes "t"))
+
+abbrev of_import : Reply
+of_import = Done 2 (detail.Import (codes "t") 1 1)
+
+create_settles : (known : Type 0) (max : ℕ) → Settles first.create max known empty_database [] of_create created (first.made ∷ [])
+create_settles known max = record {
+  entry = first.made;
+  names = record { session = refl; number = refl };
+  told = refl;
+  is_longer = refl;
+  at_is = refl;
+  command = Create (codes "t") first.schema;
+  is = create_command;
+  steps = refl;
+  detail = refl;
+}
+
+created_is : created ≡ database_after first.script (first.made ∷ []) 1
+created_is = database_settled first.script has_sessions 0 (Unit {0}) empty_database created [] (first.made ∷ []) first.create of_create refl (0, refl) (create_settles (Unit {0}) 0)
+
+after_create : (known : Type 0) (max : ℕ) → LegalInPhase first.script max known 0 (first.made ∷ []) ((of_create ∷ []) ∷ [])
+after_create known max = legal_settled first.script has_sessions max known 0 empty_database created [] (first.made ∷ []) ([] ∷ []) first.create 0 [] of_create
+    (legal_start first.script has_sessions max known ([] ∷ []) refl empty_list) refl (next 0 first.create [] refl refl refl) (create_settles known max)
+
+import_settles : (known : Type 0) (max : ℕ) → Settles first.import max known created (first.made ∷ []) of_import filled first.history
+import_settles known max = record {
+  entry = first.imported;
+  names = record { session = refl; number = refl };
+  told = refl;
+  is_longer = refl;
+  at_is = refl;
+  command = Import (codes "t") (first.row ∷ []);
+  is = import_command;
+  steps = refl;
+  detail = refl;
+}
+
+filled_is : filled ≡ database_after first.script first.history 2
+filled_is = database_settled first.script has_sessions 0 (Unit {0}) created filled (first.made ∷ []) first.history first.import of_import created_is (1, refl) (import_settles (Unit {0}) 0)
+
+after_import : (known : Type 0) (max : ℕ) → LegalInPhase first.script max known 0 first.history ((of_create ∷ of_import ∷ []) ∷ [])
+after_import known max = legal_settled first.script has_sessions max known 0 created filled (first.made ∷ []) first.history ((of_create ∷ []) ∷ []) first.import 0 (of_create ∷ []) of_import
+    (after_create known max) created_is (next 1 first.import (of_create ∷ []) refl refl refl) (import_settles known max)
 
 -- the query of the third statement has no condition
 abbrev heads : List TableHead
@@ -176,29 +223,33 @@ select_answered known max = record {
   answer = (λ told. subst (λ rows. IsPermutation rows first.rows) (sym select_out) (IsPermutation-refl first.rows));
 }
 
-after_select : (known : Type 0) (max : ℕ) → Kept first.script first.statements max known filled first.history (first.replies_at 2)
-after_select known max = kept_next first.script first.statements max known filled filled first.history first.history
-    (Done 1 (detail.Create (codes "t")) ∷ Done 2 (detail.Import (codes "t") 1 1) ∷ []) first.select (Rows 2 first.rows) one_session (after_import known max) refl
+after_select : (known : Type 0) (max : ℕ) → LegalInPhase first.script max known 0 first.history (first.replies_at 2)
+after_select known max = legal_settled first.script has_sessions max known 0 filled filled first.history first.history ((of_create ∷ of_import ∷ []) ∷ []) first.select 0
+    (of_create ∷ of_import ∷ []) (Rows 2 first.rows) (after_import known max) filled_is (next 2 first.select (of_create ∷ of_import ∷ []) refl refl refl)
     (record { same_database = refl; same_history = refl; at_is = refl }, select_answered known max)
 
-pub met : (known : Type 0) (max : ℕ) → Legal first.script max known first.history (first.replies_at 2 ∷ [])
-met known max = legal_whole first.script first.statements max known filled first.history (first.replies_at 2) one_session (after_select known max) refl
+-- each statement has its reply
+all_replied : AllReplied first.script (first.replies_at 2) 1
+all_replied zero x at = let same : first.create ≡ x = cc in rw (sym same) refl
+all_replied (suc zero) x at = let same : first.import ≡ x = cc in rw (sym same) refl
+all_replied (suc (suc zero)) x at = let same : first.select ≡ x = cc in rw (sym same) refl
+all_replied (suc (suc (suc k))) x at = absurd cc
+
+pub met : (known : Type 0) (max : ℕ) → Legal first.script max known first.history (first.replies_at 2)
+met known max = legal_end first.script has_sessions max known 0 first.history (first.replies_at 2) (after_select known max) all_replied
 
 -- along the session the number of the query may not fall below that of its import
-pub missed : (known : Type 0) (max : ℕ) → Legal first.script max known first.history (first.replies_at 1 ∷ []) → ⊥
+pub missed : (known : Type 0) (max : ℕ) → Legal first.script max known first.history (first.replies_at 1) → ⊥
 missed known max legal =
     let behind : 2 ≤ 1 = legal.parts.along first.import first.select (Done 2 (detail.Import (codes "t") 1 1)) (Rows 1 first.rows)
     (1, refl) (2, refl) refl (omega arith) refl refl in omega arith
 
 -- the databases along the history
 after_one : database_after first.script first.history 1 ≡ created
-after_one =
-    let kept = after_create (Unit {0}) 0 in
-    database_after-kept first.script (first.made ∷ []) first.imported 1 (omega arith) ∙ sym kept.database
+after_one = database_after-kept first.script (first.made ∷ []) first.imported 1 (omega arith) ∙ sym created_is
 
 after_two : (n : ℕ) → database_after first.script first.history (suc (suc n)) ≡ filled
-after_two n = let kept = after_import (Unit {0}) 0 in
-    ap (λ (entries : List Entry). replay_from (λ rows. rows) first.script empty_database entries) (take_all (suc (suc n)) first.history (omega arith)) ∙ sym kept.database
+after_two n = ap (λ (entries : List Entry). replay_from (λ rows. rows) first.script empty_database entries) (take_all (suc (suc n)) first.history (omega arith)) ∙ sym filled_is
 
 -- the row fits the columns
 row_fits : RowFits first.schema first.row
@@ -281,7 +332,7 @@ no_other moved =
     let number : ◌≡◌ {A = ℕ} 2 1 = cc in absurd (omega arith)
 
 -- rows with another number are no answer
-pub other_missed : (max : ℕ) → Legal first.script max (Known false first.script first.history first.page_read) first.history (first.replies_with 2 first.other_rows ∷ []) → ⊥
+pub other_missed : (max : ℕ) → Legal first.script max (Known false first.script first.history first.page_read) first.history (first.replies_with 2 first.other_rows) → ⊥
 other_missed max legal =
     let answered : Answered first.select (database_after first.script first.history 2) max (Known false first.script first.history first.page_read) first.other_rows
     = legal.parts.rows first.select 2 first.other_rows (2, refl) refl in

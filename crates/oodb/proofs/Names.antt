@@ -1,50 +1,56 @@
--- The names that a legal outcome tells are plain.
-use Rattle.std.proofs.Common.{ℕ, zero, suc, List, [], ◌∷◌, refl, arith}
+-- The names that a legal outcome tells are plain, as the law of reports wants it.
+use Rattle.std.proofs.Common.{◌≡◌, ℕ, List, [], ◌∷◌, length, map, sym, ◌∙◌, ap}
 use Rattle.std.specs.List.{All}
+use Rattle.std.proofs.lemmas.List.{length-map}
+use Rattle.std.proofs.lemmas.List.Elements.{All-nil, All-cons, All-head, All-tail}
 use Rattle.hv_model.specs.declared.script.Script.{Script}
 use Rattle.hv_model.specs.declared.catalogue.Detail.{Detail}
 use Rattle.hv_model.specs.declared.catalogue.Detail.TheVariants as detail
 use Rattle.hv_model.specs.declared.catalogue.Entry.{Entry}
 use Rattle.hv_model.specs.declared.reply.Reply.{Reply}
 use Rattle.hv_model.specs.declared.reply.Reply.TheVariants.{Done, Rows, Refused, Failed}
-use Rattle.hv_model.specs.Legal.{Legal}
+use Rattle.hv_model.specs.Legal.{count_of_session}
 use Rattle.hv_model.specs.Token.{IsPlain}
 use Rattle.hv_report.specs.Law.{Named, DetailNamed, EntryNamed, ReplyNamed, SessionNamed}
+use Rattle.hv_script.proofs.Names.{PlainEntry, PlainReply, NamesPlain}
 use Rattle.hv_sql.proofs.Names.{told_table}
-use Rattle.hv_script.specs.Script.{HasOneSession}
-use Rattle.hv_script.proofs.Names.{NamesPlain, PlainReply, names_are_plain}
-use Rattle.oodb.specs.Told.{report_of}
+use Rattle.hv_world.specs.World.{sessions_of, report_of}
 
 -- a detail by its table
-detail_plain : (what : Detail) → IsPlain (told_table what) → DetailNamed what
-detail_plain (detail.Create table) plain = plain
-detail_plain (detail.Import table chunk rows) plain = plain
-detail_plain (detail.Purge table chunk) plain = plain
+detail_named : (what : Detail) → IsPlain (told_table what) → DetailNamed what
+detail_named (detail.Create table) plain = plain
+detail_named (detail.Import table chunk rows) plain = plain
+detail_named (detail.Purge table chunk) plain = plain
 
--- a reply by its detail
-reply_plain : (r : Reply) → PlainReply r → ReplyNamed r
-reply_plain (Done at what) plain = detail_plain what plain
-reply_plain (Rows at rows) plain = tt
-reply_plain (Refused at cause) plain = tt
-reply_plain (Failed at cause) plain = tt
+reply_named : (r : Reply) → PlainReply r → ReplyNamed r
+reply_named (Done at what) plain = detail_named what plain
+reply_named (Rows at rows) plain = tt
+reply_named (Refused at cause) plain = tt
+reply_named (Failed at cause) plain = tt
 
--- the names of a report
-module _ (s : Script) (history : List Entry) (replies : List Reply) (plain : NamesPlain s history replies) where
-  replies_plain : All ReplyNamed replies
-  replies_plain k d below = reply_plain _ (plain.replies k d below)
+entry_named : (e : Entry) → PlainEntry e → EntryNamed e
+entry_named e plain = record { session = plain.session; what = detail_named e.what plain.table }
 
-  session_plain : All SessionNamed (report_of history replies).sessions
-  session_plain zero d below = record { name = refl; replies = replies_plain }
-  session_plain (suc k) d below = absurd (omega arith)
+-- there is a list of replies for each session where there are as many of each as its statements
+pub lists_are : (s : Script) (replies : List (List Reply)) → map (λ of_session. length of_session) replies ≡ map (count_of_session s) s.sessions → length replies ≡ length s.sessions
+lists_are s replies counts =
+    sym (length-map replies (λ (of_session : List Reply). length of_session)) ∙ ap (λ (each : List ℕ). length each) counts ∙ length-map s.sessions (count_of_session s)
 
-  entries_plain : All EntryNamed history
-  entries_plain k d below = record { session = (plain.entries k d below).session; what = detail_plain _ (plain.entries k d below).table }
+-- what follows of each follows of all
+all_follow : {X : Type 0} (P Q : X → Type 0) → ((x : X) → P x → Q x) → (xs : List X) → All P xs → All Q xs
+all_follow P Q follows xs all i d within = follows _ (all i d within)
 
-  pub report_plain : Named (report_of history replies)
-  report_plain = record { sessions = session_plain; history = entries_plain }
+-- each session with its replies
+sessions_named : (names : List (List ℕ)) (replies : List (List Reply)) → All IsPlain names → All (λ of_session. All PlainReply of_session) replies → All SessionNamed (sessions_of names replies)
+sessions_named [] replies plain all = All-nil SessionNamed
+sessions_named (name ∷ names) [] plain all = All-nil SessionNamed
+sessions_named (name ∷ names) (of_session ∷ replies) plain all =
+    All-cons SessionNamed (record { name = name; replies = of_session }) (sessions_of names replies)
+    (record { name = All-head IsPlain name names plain; replies = all_follow PlainReply ReplyNamed reply_named of_session (All-head (λ rs. All PlainReply rs) of_session replies all) })
+    (sessions_named names replies (All-tail IsPlain name names plain) (All-tail (λ rs. All PlainReply rs) of_session replies all))
 
--- sessions and tables of a legal outcome are named plainly
-pub names_plain : (s : Script) (max : ℕ) (known : Type 0) (history : List Entry) (replies : List Reply) → HasOneSession s → Legal s max known history (replies ∷ [])
-    → Named (report_of history replies)
-names_plain s max known history replies one legal =
-    report_plain s history replies (names_are_plain s one.statements max known history replies one.one legal)
+pub named_of : (s : Script) (history : List Entry) (replies : List (List Reply)) → NamesPlain s history replies → Named (report_of s history replies)
+named_of s history replies plain = record {
+  sessions = sessions_named s.sessions replies plain.sessions plain.replies;
+  history = all_follow PlainEntry EntryNamed entry_named history plain.entries;
+}

@@ -9,8 +9,8 @@ use Rattle.hv_script.proofs.Once.{no_fault_too}
 use Rattle.oodb.specs.declared.status.Status.{Status}
 use Rattle.oodb.specs.declared.status.Status.TheVariants as status
 use Rattle.oodb.specs.Lines.{word_line}
-use Rattle.oodb.specs.Known.{Known}
-use Rattle.oodb.specs.Causes.{IsCalm}
+use Rattle.hv_world.specs.Known.{Known}
+use Rattle.oodb.specs.Causes.{IsCalm, all_landed}
 use Rattle.oodb.specs.Outcome.{Around, TookReport, TookWordLine, TookFaultLine, IsRun, max_of_words}
 use Rattle.oodb.specs.InMemory.{Reports, IsEnd, TellsItsFault, IsLineOf, ReportsItsScript}
 use Rattle.oodb.proofs.Running.{at_status}
@@ -50,7 +50,7 @@ module _ {File : Type 0} (chosen : Result Options ℕ) (bytes report : List ℕ)
         history = r.history;
         replies = r.replies;
         script_is = if_some_at before.source.left bytes (λ bs. IsScript bs r.script) over.left r.script_is;
-        legal = legal_under (Unit {0}) (Known true r.script r.history r.causes.landed) (λ nothing. inl refl) r.script (max_of_words chosen) r.history _ r.legal;
+        legal = legal_under (Unit {0}) (Known true r.script r.history (all_landed r.causes.landed)) (λ nothing. inl refl) r.script (max_of_words chosen) r.history _ r.legal;
         told = r.told;
         text = taken_is before.sink after.sink took.text report over.empty over.full took.took ∙ r.is;
         status = r.status;

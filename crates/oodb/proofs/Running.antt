@@ -1,18 +1,28 @@
 -- What became of a run, from what became of its parts.
-use Rattle.std.proofs.Common.{◌≡◌, ℕ, Bool, true, false, List, Result, Err, IsOk, IfSome, inl, inr, refl, sym, subst, if◌then◌else◌}
+use Rattle.std.proofs.Common.{◌≡◌, ℕ, Bool, true, false, List, Result, Err, IsOk, IfSome, inl, inr, refl, sym, ◌∙◌, ap, subst, if◌then◌else◌}
 use Rattle.std.specs.List.{list_any}
 use Rattle.hv_script.specs.declared.words.Options.{Options}
 use Rattle.hv_model.specs.declared.script.FaultName.{FaultName}
 use Rattle.hv_model.specs.declared.reply.Reply.{Reply}
 use Rattle.hv_model.specs.Script.{IsFault}
+use Rattle.hv_model.proofs.Mapped.{list_any-map}
+use Rattle.hv_report.specs.Text.{replies_of}
+use Rattle.hv_report.specs.declared.report.SessionReport.{SessionReport}
 use Rattle.oodb.specs.declared.status.Status.{Status}
 use Rattle.oodb.specs.declared.status.Status.TheVariants as status
 use Rattle.oodb.specs.Lines.{fault_line, word_line}
 use Rattle.oodb.specs.Outcome.{Around, WholeOrCut, IsWordLine, IsFaultLine, IsReport, TookReport, IsRun, IsReported, status_of, is_failed}
 
 -- a report has one of two statuses
-pub reported_status : (replies : List Reply) → IsReported (status_of replies)
-reported_status replies = elim (list_any is_failed replies) as (λ b. IsReported (if b then status.SomeFailed else status.Fine)) [ true ↦ inr refl | false ↦ inl refl ]
+pub reported_status : (replies : List (List Reply)) → IsReported (status_of replies)
+reported_status replies = elim (list_any (list_any is_failed) replies) as (λ b. IsReported (if b then status.SomeFailed else status.Fine)) [ true ↦ inr refl | false ↦ inl refl ]
+
+-- the status of a report, by whether a reply of some session failed
+pub status_by : (sessions : List SessionReport) (some b : Bool) → some ≡ list_any (λ (session : SessionReport). list_any is_failed session.replies) sessions → some ≡ b
+    → (if b then status.SomeFailed else status.Fine) ≡ status_of (replies_of sessions)
+status_by sessions some b is at =
+    ap (λ (v : Bool). if v then status.SomeFailed else status.Fine)
+    (sym at ∙ is ∙ sym (list_any-map (λ (session : SessionReport). session.replies) (list_any is_failed) sessions))
 
 module _ {File : Type 0} (tells : Bool) (chosen : Result Options ℕ) (before after : Around File) where
   -- the branch of a status that is another by an equation

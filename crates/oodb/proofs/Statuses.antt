@@ -14,7 +14,8 @@ use Rattle.hv_script.proofs.Once.{no_fault_too, one_fault}
 use Rattle.oodb.specs.declared.status.Status.{Status}
 use Rattle.oodb.specs.declared.status.Status.TheVariants as status
 use Rattle.oodb.specs.Lines.{fault_line}
-use Rattle.oodb.specs.Causes.{IsCalm, DeviceKept}
+use Rattle.hv_world.specs.Unused.{CountStands, IsUnused}
+use Rattle.oodb.specs.Causes.{IsCalm, DeviceKept, all_landed}
 use Rattle.oodb.specs.Outcome.{Around, IsFaultLine, IsReport, MayWrite, CutShort, SourceFailed, NoMemory, IsRun, IsReported}
 use Rattle.oodb.proofs.Running.{at_status}
 use Rattle.oodb.specs.Statuses.{TellsFault, IsNoScript, SinkRose, SinkKept, SinkCalm, IsAnswered}
@@ -69,6 +70,20 @@ still_kept before after still = record {
   landings = ap (λ (b : Back _). b.landings) still ∙ sym (append-nil before.landings);
 }
 
+-- a count that stands did not fall below its end
+stands_kept : (before now : ℕ) → CountStands before now → min before 18446744073709551615 ≤ now
+stands_kept before now (inl same) = omega arith
+stands_kept before now (inr capped) = omega arith
+
+-- a device whose ports came back unused
+unused_kept : {File : Type 0} (before after : Back File) → IsUnused before after → DeviceKept before after
+unused_kept before after unused = record {
+  ports = unused.out;
+  faults = stands_kept before.faults after.faults unused.faults;
+  landed = [];
+  landings = unused.landings ∙ sym (append-nil before.landings);
+}
+
 -- the same fault has the same line
 pub same_line : (bytes : List ℕ) (name other : FaultName) (byte place : ℕ) → IsFault bytes name byte → IsFault bytes other place → fault_line name byte ≡ fault_line other place
 same_line bytes name other byte place fault again =
@@ -121,22 +136,27 @@ module _ {File : Type 0} (tells : Bool) (chosen : Result Options ℕ) (before af
   sink_kept status.SinkFault cut never = absurd (never refl)
   sink_kept status.Memory none never = silent_kept before.sink after.sink none.silent
 
-  -- where no statement was answered the device is as it was
-  pub device_still : (now : Status) → IsRun tells chosen now before after → ¬ (IsReported now) → ¬ (now ≡ status.SinkFault) → after.device ≡ before.device
-  device_still status.Fine took silent uncut = absurd (silent (inl refl))
-  device_still status.SomeFailed took silent uncut = absurd (silent (inr refl))
-  device_still status.Words took silent uncut = took.is.still
-  device_still status.Script took silent uncut = took.is.still
-  device_still status.SourceFault failed silent uncut = failed.still
-  device_still status.SinkFault cut silent uncut = absurd (uncut refl)
-  device_still status.Memory none silent uncut = none.still
+  -- where no port went the device is as it was
+  pub device_still : (now : Status) → IsRun tells chosen now before after → ¬ (IsReported now) → ¬ (now ≡ status.SinkFault) → ¬ (now ≡ status.Memory)
+      → after.device ≡ before.device
+  device_still status.Fine took silent uncut memory = absurd (silent (inl refl))
+  device_still status.SomeFailed took silent uncut memory = absurd (silent (inr refl))
+  device_still status.Words took silent uncut memory = took.is.still
+  device_still status.Script took silent uncut memory = took.is.still
+  device_still status.SourceFault failed silent uncut memory = failed.still
+  device_still status.SinkFault cut silent uncut memory = absurd (uncut refl)
+  device_still status.Memory none silent uncut memory = absurd (memory refl)
+
+  -- where no statement was answered for want of memory, each port came back unused
+  pub device_unused : (now : Status) → IsRun tells chosen now before after → now ≡ status.Memory → IsUnused before.device after.device
+  device_unused now answers is = let none = at_status tells chosen before after now status.Memory is answers in none.unused
 
   -- whatever became of the run, the device is kept
   caused_kept : (full : Status) (text : List ℕ) → IsReport tells chosen full text before after → DeviceKept before.device after.device
   caused_kept full text report = record {
     ports = report.causes.ports;
     faults = report.causes.reads_and_writes.falls_never;
-    landed = report.causes.landed;
+    landed = all_landed report.causes.landed;
     landings = report.causes.landings;
   }
 
@@ -152,7 +172,7 @@ module _ {File : Type 0} (tells : Bool) (chosen : Result Options ℕ) (before af
   device_kept status.Script took = still_kept before.device after.device took.is.still
   device_kept status.SourceFault failed = still_kept before.device after.device failed.still
   device_kept status.SinkFault cut = may_kept cut.text cut.may
-  device_kept status.Memory none = still_kept before.device after.device none.still
+  device_kept status.Memory none = unused_kept before.device after.device none.unused
 
   -- a script has no fault
   faultless : (full : Status) (text : List ℕ) → IsReport tells chosen full text before after

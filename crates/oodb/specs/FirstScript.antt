@@ -49,11 +49,14 @@ rows = (Num (pos 1) ∷ Txt (codes "a") ∷ []) ∷ []
 abbrev pub other_rows : List (List Cell)
 other_rows = (Num (pos 2) ∷ Txt (codes "a") ∷ []) ∷ []
 
--- the replies, the last with its number and its rows
-abbrev pub replies_with : ℕ → List (List Cell) → List Reply
-replies_with n of_query = Done 1 (detail.Create (codes "t")) ∷ Done 2 (detail.Import (codes "t") 1 1) ∷ Rows n of_query ∷ []
+-- the replies of its one session, the last with its number and its rows
+abbrev pub main_with : ℕ → List (List Cell) → List Reply
+main_with n of_query = Done 1 (detail.Create (codes "t")) ∷ Done 2 (detail.Import (codes "t") 1 1) ∷ Rows n of_query ∷ []
 
-abbrev pub replies_at : ℕ → List Reply
+abbrev pub replies_with : ℕ → List (List Cell) → List (List Reply)
+replies_with n of_query = main_with n of_query ∷ []
+
+abbrev pub replies_at : ℕ → List (List Reply)
 replies_at n = replies_with n rows
 
 -- the table's columns, and the row that is imported

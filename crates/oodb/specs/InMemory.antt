@@ -1,5 +1,5 @@
 -- What a run over memory gives.
-use Rattle.std.specs.Prelude.{◌≡◌, ◌⊎◌, ℕ, List, [], ◌∷◌}
+use Rattle.std.specs.Prelude.{◌≡◌, ◌⊎◌, ℕ, List}
 use Rattle.hv_model.specs.declared.script.Script.{Script}
 use Rattle.hv_model.specs.declared.catalogue.Entry.{Entry}
 use Rattle.hv_model.specs.declared.reply.Reply.{Reply}
@@ -10,21 +10,22 @@ use Rattle.hv_model.specs.Report.{report_text}
 use Rattle.oodb.specs.declared.status.Status.{Status}
 use Rattle.oodb.specs.declared.status.Status.TheVariants as status
 use Rattle.oodb.specs.Lines.{fault_line}
-use Rattle.oodb.specs.Causes.{OnlyMemoryFails}
+use Rattle.oodb.specs.Causes.{OnlyMemoryFailsIn}
 use Rattle.oodb.specs.Told.{IsTold}
 use Rattle.oodb.specs.Outcome.{status_of, IsReported}
 
--- these bytes are the report of one history and one list of replies, which are legal for the script of the bytes with no premise, and fail by want of memory alone
+-- these bytes are the report of one history and the replies of each session, which are legal for the script of the bytes with no premise, and fail by want of memory
+-- alone
 pub record Reports (bytes : List ℕ) (max : ℕ) (now : Status) (report : List ℕ) : Type 0 where
   pub script : Script
   pub history : List Entry
-  pub replies : List Reply
+  pub replies : List (List Reply)
   pub script_is : IsScript bytes script
-  pub legal : Legal script max (Unit {0}) history (replies ∷ [])
+  pub legal : Legal script max (Unit {0}) history replies
   pub told : IsTold script history replies
-  pub text : report ≡ report_text script history (replies ∷ [])
+  pub text : report ≡ report_text script history replies
   pub status : now ≡ status_of replies
-  pub only : OnlyMemoryFails replies
+  pub only : OnlyMemoryFailsIn replies
 
 -- a run over memory ends with a report or with the line of a fault
 abbrev pub IsEnd : Status → Type 0

@@ -1,15 +1,9 @@
 pub mod Lines
-pub mod Reads
-pub mod Damage
 pub mod Causes
-pub mod RowsRead
-pub mod Stored
-pub mod Imported
-pub mod Answer
 pub mod Told
 pub mod Outcome
 pub mod Status
 pub mod Statuses
 pub mod InMemory
 pub mod FirstScript
-pub mod Known
+pub mod Picks

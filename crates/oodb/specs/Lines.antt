@@ -5,7 +5,7 @@ use Rattle.hv_io.specs.Bytes.{Seen}
 use Rattle.hv_io.specs.Putting.{TookAll, Stopped}
 use Rattle.hv_io.specs.declared.writing.PutAll.{PutAll}
 use Rattle.hv_model.specs.declared.script.FaultName.{FaultName}
-use Rattle.hv_model.specs.declared.script.FaultName.TheVariants.{TooLong, NotUtf8, Unended, LongImport, ShortImport, TooManyStatements}
+use Rattle.hv_model.specs.declared.script.FaultName.TheVariants.{TooLong, NotUtf8, Unended, LongImport, ShortImport, TooManySessions, TooManyStatements}
 
 -- what is printed of a script's fault
 abbrev pub fault_name : FaultName → List ℕ
@@ -14,6 +14,7 @@ fault_name NotUtf8 = codes "not-utf8"
 fault_name Unended = codes "unended"
 fault_name LongImport = codes "long-import"
 fault_name ShortImport = codes "short-import"
+fault_name TooManySessions = codes "too-many-sessions"
 fault_name TooManyStatements = codes "too-many-statements"
 
 -- the i-th word, counted from 1, is at fault

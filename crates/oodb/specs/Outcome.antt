@@ -1,5 +1,5 @@
 -- What went into a run and what came out of it: one relation by cases over the status, of which each clause of the top call is a branch.
-use Rattle.std.specs.Prelude.{◌≡◌, ◌⊎◌, ℕ, Bool, true, false, List, [], ◌∷◌, Option, Result, Ok, Err, IsOk, IfSome, if◌then◌else◌}
+use Rattle.std.specs.Prelude.{◌≡◌, ◌⊎◌, ℕ, Bool, true, false, List, Option, Result, Ok, Err, IsOk, IfSome, if◌then◌else◌}
 use Rattle.std.specs.List.{list_any}
 use Rattle.hv_io.specs.Bytes.{Seen}
 use Rattle.hv_io.specs.Seen.{seen}
@@ -23,8 +23,9 @@ use Rattle.hv_script.specs.Words.{max_of}
 use Rattle.oodb.specs.declared.status.Status.{Status}
 use Rattle.oodb.specs.declared.status.Status.TheVariants as status
 use Rattle.oodb.specs.Lines.{word_line, fault_line}
-use Rattle.oodb.specs.Known.{Known}
-use Rattle.oodb.specs.Causes.{AreCaused}
+use Rattle.hv_world.specs.Known.{Known}
+use Rattle.hv_world.specs.Unused.{IsUnused}
+use Rattle.oodb.specs.Causes.{all_landed, AreCaused}
 use Rattle.oodb.specs.Told.{IsTold}
 
 -- what a clause sees of a source
@@ -54,8 +55,8 @@ is_failed (reply.Refused at cause) = false
 is_failed (reply.Failed at cause) = true
 
 -- the status of a report that was taken whole
-abbrev pub status_of : List Reply → Status
-status_of replies = if list_any is_failed replies then status.SomeFailed else status.Fine
+abbrev pub status_of : List (List Reply) → Status
+status_of replies = if list_any (list_any is_failed) replies then status.SomeFailed else status.Fine
 
 -- the statuses of a report that was taken whole
 abbrev pub IsReported : Status → Type 0
@@ -84,19 +85,19 @@ pub record IsFaultLine {File : Type 0} (chosen : Result Options ℕ) (text : Lis
   pub still : after.device ≡ before.device
   pub line : text ≡ fault_line name byte
 
--- one history and one list of replies, legal for the script of the source's bytes and caused by what became of the device: the text is the report on them, with
--- the status that it has once it is taken
+-- one history and the replies of each session, legal for the script of the source's bytes and caused by what became of the device: the text is the report on them,
+-- with the status that it has once it is taken
 pub record IsReport {File : Type 0} (tells : Bool) (chosen : Result Options ℕ) (full : Status) (text : List ℕ) (before after : Around File) : Type 0 where
   pub words : IsOk chosen
   pub calm : after.source.faults ≡ before.source.faults
   pub script : Script
   pub history : List Entry
-  pub replies : List Reply
+  pub replies : List (List Reply)
   pub script_is : IfSome before.source.left (λ bytes. IsScript bytes script)
   pub causes : AreCaused tells script history replies before.device after.device
-  pub legal : Legal script (max_of_words chosen) (Known tells script history causes.landed) history (replies ∷ [])
+  pub legal : Legal script (max_of_words chosen) (Known tells script history (all_landed causes.landed)) history replies
   pub told : IsTold script history replies
-  pub is : text ≡ report_text script history (replies ∷ [])
+  pub is : text ≡ report_text script history replies
   pub status : full ≡ status_of replies
 
 -- a text of this kind was taken whole
@@ -122,12 +123,12 @@ pub record SourceFailed {File : Type 0} (chosen : Result Options ℕ) (before af
   pub silent : after.sink ≡ before.sink
   pub still : after.device ≡ before.device
 
--- want of memory before the first statement: nothing was taken and the device is as it was
+-- want of memory before the first statement: nothing was taken, and each port that the device had given came back unused
 pub record NoMemory {File : Type 0} (chosen : Result Options ℕ) (before after : Around File) : Type 0 where
   pub words : IsOk chosen
   pub calm : after.source.faults ≡ before.source.faults
   pub silent : after.sink ≡ before.sink
-  pub still : after.device ≡ before.device
+  pub unused : IsUnused before.device after.device
 
 -- a text that a run may hand over
 abbrev pub MayWrite : {File : Type 0} → Bool → Result Options ℕ → List ℕ → Around File → Around File → Type 0

@@ -17,6 +17,7 @@ fn fault_name(name: FaultName) -> &'static [u8]
         FaultName::Unended => b"unended",
         FaultName::LongImport => b"long-import",
         FaultName::ShortImport => b"short-import",
+        FaultName::TooManySessions => b"too-many-sessions",
         FaultName::TooManyStatements => b"too-many-statements",
     }
 }

@@ -6,20 +6,12 @@
 ghost use Rattle.std.specs.Prelude.{◌≡◌, map, drop, string_bytes, IfOk};
 ghost use Rattle.std.specs.Vec.Iter.{into_iter_items};
 
-mod access;
-mod answer;
-mod answers;
-mod binding;
-mod build;
-mod command;
 mod law;
 mod lines;
 mod memory;
-mod pages;
-mod report;
+mod picks;
 mod run;
 mod status;
-mod tables;
 #[cfg(test)]
 mod tests;
 

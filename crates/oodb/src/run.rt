@@ -1,38 +1,34 @@
 // The top call.
 ghost use Rattle.std.specs.List.{list_any};
-ghost use Rattle.std.specs.Prelude.{◌≡◌, false, ◌⊎◌, ℕ, List, [], ◌∷◌, Ok, IsOk, IfSome, IfOk, OnOk, OnErr, IfErr};
+ghost use Rattle.std.specs.Prelude.{◌≡◌, false, ◌⊎◌, ℕ, List, Ok, IsOk, IfSome, IfErr};
 ghost use Rattle.hv_io.specs.Bytes.{Seen};
 ghost use Rattle.hv_io.specs.Seen.{seen};
-ghost use Rattle.hv_dev.specs.Reading.{went};
 ghost use Rattle.hv_script.specs.Words.{options};
-ghost use Rattle.hv_model.specs.Report.{report_text};
-ghost use Rattle.hv_model.specs.declared.script.Script.{Script};
+ghost use Rattle.hv_model.specs.Script.{IsScript};
 ghost use Rattle.hv_report.specs.Law.{InRange};
-ghost use Rattle.hv_script.specs.Script.{HasOneSession};
+ghost use Rattle.hv_report.specs.Text.{replies_of, text_of};
+ghost use Rattle.hv_world.specs.Unused.{IsUnused};
+ghost use Rattle.hv_world.specs.World.{IsDone};
 ghost use Rattle.oodb.specs.Lines.{Written};
-ghost use Rattle.oodb.specs.Reads.{port_seen, fresh_port};
 ghost use Rattle.oodb.specs.Causes.{DeviceKept, IsCalm};
-ghost use Rattle.oodb.specs.Told.{report_of};
 ghost use Rattle.oodb.specs.Outcome.{source_seen, around, IsRun, TookReport, TookWordLine, TookFaultLine, SourceFailed, CutShort, NoMemory, ReportsOn, WholeOrCut, IsReported, status_of, is_failed};
 ghost use Rattle.oodb.specs.Statuses.{TellsFault, IsNoScript, SinkRose, SinkKept, SinkCalm, IsAnswered};
 ghost use Rattle.oodb.specs.declared.status.Status.TheVariants as status;
 
-use crate::access::PageAccess;
-use crate::answers::{Outcome, Room, answer_all, statements};
 use crate::lines::{put_fault_line, put_word_line};
-use crate::report::Blank;
+use crate::picks::Picks;
 use crate::status::Status;
 use hv_dev::{Device, Order};
-use hv_frames::make;
 use hv_io::{PutAll, Sink, Source};
 use hv_model::{Reply, Script};
-use hv_report::write_report;
+use hv_report::{Report, SessionReport, write_report};
 use hv_row::Bytes;
 use hv_script::{Options, ReadScriptFault, read_script, read_words};
-use std::alloc::{AllocError, Global};
+use hv_world::World;
+use std::alloc::Global;
 
-/// Reads the words and the script, answers the script's statements over files of the device, and writes the report.
-/// It uses one port with room for one read, and one frame; the port comes back.
+/// Reads the words and the script, lets the script's sessions take their steps over files of the device, and writes the report.
+/// Each session has one port with room for one read, and one frame; the ports come back.
 pub fn run<S: Source, K: Sink, D: Device>(
     alloc: Global,
     words: &[Bytes],
@@ -52,7 +48,8 @@ pub fn run<S: Source, K: Sink, D: Device>(
     ensures sink { result ≡ status.SinkFault → SinkRose (seen K.Sink out.old) (seen K.Sink out.new) × CutShort D.Port.File.tells (options false words.now) (around S.Source K.Sink D.Device script.old out.old dev.old) (around S.Source K.Sink D.Device script.new out.new dev.new) }
     ensures sink_calm { ¬ (result ≡ status.SinkFault) → SinkKept (seen K.Sink out.old) (seen K.Sink out.new) }
     ensures memory { result ≡ status.Memory → NoMemory (options false words.now) (around S.Source K.Sink D.Device script.old out.old dev.old) (around S.Source K.Sink D.Device script.new out.new dev.new) }
-    ensures device { ¬ (IsReported result) → ¬ (result ≡ status.SinkFault) → D.returned dev.new ≡ D.returned dev.old }
+    ensures device { ¬ (IsReported result) → ¬ (result ≡ status.SinkFault) → ¬ (result ≡ status.Memory) → D.returned dev.new ≡ D.returned dev.old }
+    ensures unused { result ≡ status.Memory → IsUnused (D.returned dev.old) (D.returned dev.new) }
     ensures ports { DeviceKept (D.returned dev.old) (D.returned dev.new) }
     ensures complete { IsOk (options false words.now) → IsCalm (S.faults script.old) (S.faults script.new) → SinkCalm (seen K.Sink out.old) (seen K.Sink out.new) → IfSome (S.left script.old) (λ bytes. IsAnswered bytes result) }
 {
@@ -86,7 +83,7 @@ fn run_script<S: Source, K: Sink, D: Device>(
     ensures { IsRun D.Port.File.tells (Ok options) result (around S.Source K.Sink D.Device source.old out.old dev.old) (around S.Source K.Sink D.Device source.new out.new dev.new) }
 {
     match read_script(alloc, source) {
-        Ok(script) => report(alloc, &script, out, dev),
+        Ok(script) => report(alloc, options.order, script, out, dev),
         Err(ReadScriptFault::Found(fault)) => written_status(
             put_fault_line(out, fault),
             Status::Script,
@@ -96,68 +93,70 @@ fn run_script<S: Source, K: Sink, D: Device>(
     }
 }
 
-// Answers a script's statements and writes the report. All memory for pages, the history, the replies and the report is taken before the
-// first statement.
-fn report<K: Sink, D: Device>(alloc: Global, script: &Script, out: &mut K, dev: &mut D) -> Status
-    requires { HasOneSession script.now }
-    ensures { ReportsOn D.Port.File.tells script.now result (seen K.Sink out.old) (seen K.Sink out.new) (D.returned dev.old) (D.returned dev.new) }
+// Lets a script's sessions take their steps and writes the report. All memory for the history, the replies and the report is taken before the
+// first step.
+fn report<K: Sink, D: Device>(
+    alloc: Global,
+    order: Order,
+    script: Script,
+    out: &mut K,
+    dev: &mut D,
+) -> Status
+    requires { (bytes : List ℕ) × IsScript bytes script }
+    ensures { ReportsOn D.Port.File.tells script result (seen K.Sink out.old) (seen K.Sink out.new) (D.returned dev.old) (D.returned dev.new) }
 {
-    let phase = statements(script);
-    let Ok(room) = Room::new(alloc, phase.len()) else {
+    let Ok(world) = World::new(alloc, script, order, dev) else {
         return Status::Memory;
     };
-    let Ok(blank) = Blank::new(alloc) else {
-        return Status::Memory;
-    };
-    let Ok(mut access) = open_access(alloc, dev) else {
-        return Status::Memory;
-    };
-    let outcome = answer_all(alloc, script, phase, room, &mut access);
-    dev.back(access.close());
-    write_outcome(blank, outcome, out)
+    let done = take_turns(alloc, order, world);
+    let report = done.report(dev);
+    write_whole(&report, out)
 }
 
-// A port with room for one read, and the frame that it fills.
-fn open_access<D: Device>(alloc: Global, dev: &mut D) -> Result<PageAccess<D::Port>, AllocError>
-    ensures fresh { IfOk result (λ access. port_seen D.Port.PageSink access.port ≡ fresh_port D.Port.File) }
-    ensures out { OnOk result (D.returned dev.new ≡ went (D.returned dev.old)) }
-    ensures kept { OnErr result (D.returned dev.new ≡ D.returned dev.old) }
+// Lets one session after another take a step, until each statement has its reply.
+fn take_turns<D: Device>(alloc: Global, order: Order, world: World<D>) -> World<D>
+    ensures done { IsDone result }
+    ensures script { result.script ≡ world.script }
 {
-    let (owner, frames) = make(alloc, 1)?;
-    match dev.port(alloc, Order::Fifo, 1) {
-        Ok(port) => Ok(PageAccess::new(port, owner, frames)),
-        Err(error) => {
-            owner.end(frames);
-            Err(error)
-        }
+    let mut picks = Picks::new(order);
+    let mut world = world;
+    while !world.done() {
+        let k = picks.next(&world);
+        world.pick(alloc, k);
     }
+    world
 }
 
-// Writes the report on an outcome of a script of one session.
-fn write_outcome<K: Sink>(blank: Blank, outcome: Outcome, out: &mut K) -> Status
-    ensures over { (script : Script) → HasOneSession script → WholeOrCut (report_text script outcome.history (outcome.replies.items ∷ [])) (status_of outcome.replies.items) result (seen K.Sink out.old) (seen K.Sink out.new) }
-    ensures in_range { InRange (report_of outcome.history outcome.replies.items) }
+// Writes a report; the status is that of its replies where it is taken whole.
+fn write_whole<K: Sink>(report: &Report, out: &mut K) -> Status
+    ensures over { WholeOrCut (text_of report.now) (status_of (replies_of report.now.sessions)) result (seen K.Sink out.old) (seen K.Sink out.new) }
+    ensures in_range { InRange report.now }
 {
-    let full = full_status(outcome.replies.as_slice());
-    let report = blank.filled(outcome);
-    written_status(write_report(out, &report), full)
+    let full = full_status(report.sessions.as_slice());
+    written_status(write_report(out, report), full)
 }
 
 // The status of a report that is taken whole.
-fn full_status(replies: &[Reply]) -> Status
-    ensures { result ≡ status_of replies.now }
+fn full_status(sessions: &[SessionReport]) -> Status
+    ensures { result ≡ status_of (replies_of sessions.now) }
 {
-    if some_failed(replies) {
+    if any_failed(sessions) {
         Status::SomeFailed
     } else {
         Status::Fine
     }
 }
 
-fn some_failed(replies: &[Reply]) -> bool
-    ensures { result ≡ list_any is_failed replies.now }
+fn any_failed(sessions: &[SessionReport]) -> bool
+    ensures { result ≡ list_any (λ session. list_any is_failed session.replies) sessions.now }
 {
-    replies.iter().any(is_failed)
+    sessions.iter().any(some_failed)
+}
+
+fn some_failed(session: &SessionReport) -> bool
+    ensures { result ≡ list_any is_failed session.now.replies }
+{
+    session.replies.as_slice().iter().any(is_failed)
 }
 
 fn is_failed(reply: &Reply) -> bool

@@ -2,6 +2,7 @@
 ghost use Rattle.std.specs.Prelude.{◌<◌};
 
 mod devices;
+mod orders;
 mod pieces;
 
 use crate::memory::run_in_memory;
@@ -24,16 +25,27 @@ struct Taken {
 // Runs the script of a source over a device.
 fn ran<D: Device>(
     alloc: Global,
-    mut source: MemSource,
-    mut out: MemSink,
+    source: MemSource,
+    out: MemSink,
     device: &mut D,
 ) -> Result<Taken, AllocError> {
     let words = [Bytes::from_slice(alloc, b"run")?];
-    let status = run(alloc, &words, &mut source, &mut out, device);
-    Ok(Taken {
+    Ok(ran_by(alloc, &words, source, out, device))
+}
+
+// The same by these words.
+fn ran_by<D: Device>(
+    alloc: Global,
+    words: &[Bytes],
+    mut source: MemSource,
+    mut out: MemSink,
+    device: &mut D,
+) -> Taken {
+    let status = run(alloc, words, &mut source, &mut out, device);
+    Taken {
         status,
         taken: out.into_vec(),
-    })
+    }
 }
 
 // A source of a script, which gives so many bytes at a call, and fails at one if it is named.

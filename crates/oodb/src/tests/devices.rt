@@ -198,6 +198,35 @@ const SECOND_UNWRITTEN: &[Part] = &[
     Text("history 2\n1 main 1 create t\n2 main 2 import t chunk 1 rows 500\n"),
 ];
 
+#[test]
+fn a_read_of_one_port_fails_its_session_alone(rt: HostRuntime) -> Result<(), Fail> {
+    let mut fails = Vec::new(rt.alloc());
+    fails.push(FailedCall {
+        port: 1,
+        kind: Read,
+        nth: 2,
+    })?;
+    let mut device = MemDevice::new(fails);
+    compare(
+        &rt,
+        rt.alloc(),
+        &mut device,
+        TWO_READERS,
+        SomeFailed,
+        &[Text(ONE_UNREAD)],
+    )
+}
+
+// Two sessions read three pages each; the one that is named first has port 1.
+const TWO_READERS: &[Part] = &[
+    Text("CREATE TABLE t (a INT);\nIMPORT INTO t LINES 817;\n"),
+    Numbers(1, 817),
+    Text("BARRIER;\nSESSION b;\nSELECT COUNT(*) FROM t;\nSESSION a;\nSELECT COUNT(*) FROM t;\n"),
+];
+
+const ONE_UNREAD: &str =
+    "session main\n1 ok @1 create t\n2 ok @2 import t chunk 1 rows 817\nsession b\n1 failed @2 read\nsession a\n1 rows @2 1\n817\nhistory 2\n1 main 1 create t\n2 main 2 import t chunk 1 rows 817\n";
+
 // A table of two rows, one of one row and one without a row.
 const TABLES: &str =
     "CREATE TABLE t (a INT);\nCREATE TABLE u (b INT);\nCREATE TABLE e (c INT);\nIMPORT INTO t LINES 2;\n1\n2\nIMPORT INTO u LINES 1;\n3\nIMPORT INTO e LINES 0;\n";

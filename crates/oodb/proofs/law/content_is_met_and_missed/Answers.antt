@@ -1,6 +1,6 @@
 -- The outcome of the first script, over the read of its page.
 use Rattle.std.proofs.Common.{false}
-use Rattle.oodb.specs.Known.{Known}
+use Rattle.hv_world.specs.Known.{Known}
 use Rattle.oodb.specs.FirstScript.{script, history, page_read}
 use Rattle.oodb.proofs.FirstScript as first
 use Rattle.oodb.proofs.law.content_is_met_and_missed.Goals as goal

@@ -1,6 +1,6 @@
 -- Each clause is a branch of what became of the run.
 use Rattle.oodb.proofs.Running.{at_status, report_taken}
-use Rattle.oodb.proofs.Statuses.{if_bad, unread, fault_told, never_script, calm, sink_cut, sink_kept, device_still, device_kept, answered}
+use Rattle.oodb.proofs.Statuses.{if_bad, unread, fault_told, never_script, calm, sink_cut, sink_kept, device_still, device_unused, device_kept, answered}
 use Rattle.oodb.specs.declared.status.Status.TheVariants as status
 use Rattle.oodb.proofs.run.run.Goals as goal
 
@@ -20,6 +20,7 @@ returns g c =
       sink_calm = sink_kept _ _ _ _ _ answers;
       memory = λ is. at_status _ _ _ _ _ status.Memory is answers;
       device = device_still _ _ _ _ _ answers;
+      unused = device_unused _ _ _ _ _ answers;
       ports = device_kept _ _ _ _ _ answers;
       complete = answered _ _ _ _ _ answers;
     }

@@ -1,0 +1,1 @@
+-- What a text says by its mark is what its tree says.

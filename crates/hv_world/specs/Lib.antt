@@ -1,0 +1,17 @@
+pub mod Reads
+pub mod Damage
+pub mod Causes
+pub mod RowsRead
+pub mod Stored
+pub mod Imported
+pub mod Answer
+pub mod Known
+pub mod Look
+pub mod Selecting
+pub mod Stage
+pub mod Step
+pub mod Unused
+pub mod World
+pub mod Standing
+pub mod Turns
+pub mod Picks
